@@ -24,7 +24,12 @@ pub fn seal(key: &Key, nonce: &Nonce, marked: &[u8], content: &[u8]) -> Result<V
 
 /// Opens: the content, if the last 16 bytes are the mark of the marked bytes and of what is before
 /// them. The marks are compared openly, byte by byte; this program keeps no secrets.
-pub fn open(key: &Key, nonce: &Nonce, marked: &[u8], sealed: &[u8]) -> Result<Vec<u8>, DoesNotOpen> {
+pub fn open(
+    key: &Key,
+    nonce: &Nonce,
+    marked: &[u8],
+    sealed: &[u8],
+) -> Result<Vec<u8>, DoesNotOpen> {
     let encrypted_len = sealed.len().checked_sub(TAG_LEN).ok_or(DoesNotOpen)?;
     let (encrypted, claimed) = sealed.split_at(encrypted_len);
     let Tag(expected) = mark(key, nonce, marked, encrypted);
@@ -82,7 +87,10 @@ mod tests {
     fn one_time_key_of_2_6_2() {
         let nonce = Nonce(hex::array("000000000001020304050607"));
         let expected = "8ad5a08b905f81cc815040274ab29471a833b637e3fd0da508dbb8e2fdd1a646";
-        assert_eq!(one_time_key(&key(), &nonce), OneTimeKey(hex::array(expected)));
+        assert_eq!(
+            one_time_key(&key(), &nonce),
+            OneTimeKey(hex::array(expected))
+        );
     }
 
     #[test]
@@ -99,8 +107,14 @@ mod tests {
     #[test]
     fn seal_and_open_of_2_8_2() {
         let sealed: [u8; 130] = hex::array(SEALED);
-        assert_eq!(seal(&key(), &nonce(), &marked(), CONTENT), Ok(sealed.to_vec()));
-        assert_eq!(open(&key(), &nonce(), &marked(), &sealed), Ok(CONTENT.to_vec()));
+        assert_eq!(
+            seal(&key(), &nonce(), &marked(), CONTENT),
+            Ok(sealed.to_vec())
+        );
+        assert_eq!(
+            open(&key(), &nonce(), &marked(), &sealed),
+            Ok(CONTENT.to_vec())
+        );
     }
 
     #[test]
@@ -109,7 +123,10 @@ mod tests {
         for bit in 0..8 * sealed.len() {
             let mut changed = sealed;
             changed[bit / 8] ^= 1 << (bit % 8);
-            assert_eq!(open(&key(), &nonce(), &marked(), &changed), Err(DoesNotOpen));
+            assert_eq!(
+                open(&key(), &nonce(), &marked(), &changed),
+                Err(DoesNotOpen)
+            );
         }
         for bit in 0..8 * marked().len() {
             let mut changed = marked();
@@ -117,7 +134,10 @@ mod tests {
             assert_eq!(open(&key(), &nonce(), &changed, &sealed), Err(DoesNotOpen));
         }
         for len in 0..sealed.len() {
-            assert_eq!(open(&key(), &nonce(), &marked(), &sealed[..len]), Err(DoesNotOpen));
+            assert_eq!(
+                open(&key(), &nonce(), &marked(), &sealed[..len]),
+                Err(DoesNotOpen)
+            );
         }
     }
 }

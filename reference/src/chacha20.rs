@@ -78,7 +78,12 @@ impl State {
 /// The bytes four by four as numbers, the lowest byte first.
 fn little_endian_words<const N: usize>(bytes: &[u8]) -> [u32; N] {
     std::array::from_fn(|i| {
-        u32::from_le_bytes([bytes[4 * i], bytes[4 * i + 1], bytes[4 * i + 2], bytes[4 * i + 3]])
+        u32::from_le_bytes([
+            bytes[4 * i],
+            bytes[4 * i + 1],
+            bytes[4 * i + 2],
+            bytes[4 * i + 3],
+        ])
     })
 }
 
@@ -102,7 +107,11 @@ pub fn encrypt(key: &Key, counter: u32, nonce: &Nonce, content: &[u8]) -> Result
         let index = u32::try_from(index).map_err(|_| TooLong)?;
         let number = counter.checked_add(index).ok_or(TooLong)?;
         let key_stream = block(key, number, nonce);
-        encrypted.extend(part.iter().zip(key_stream).map(|(byte, key_byte)| byte ^ key_byte));
+        encrypted.extend(
+            part.iter()
+                .zip(key_stream)
+                .map(|(byte, key_byte)| byte ^ key_byte),
+        );
     }
     Ok(encrypted)
 }
@@ -121,7 +130,10 @@ mod tests {
         let mut state = State([0; 16]);
         state.0[..4].copy_from_slice(&[0x11111111, 0x01020304, 0x9b8d6f43, 0x01234567]);
         state.quarter_round(0, 1, 2, 3);
-        assert_eq!(state.0[..4], [0xea2a92f4, 0xcb1cf8ce, 0x4581472e, 0x5881c4bb]);
+        assert_eq!(
+            state.0[..4],
+            [0xea2a92f4, 0xcb1cf8ce, 0x4581472e, 0x5881c4bb]
+        );
     }
 
     #[test]
@@ -163,16 +175,25 @@ mod tests {
         );
         let encrypted = encrypt(&counting_key(), 1, &nonce, content);
         assert_eq!(encrypted, Ok(expected.to_vec()));
-        assert_eq!(encrypt(&counting_key(), 1, &nonce, &expected), Ok(content.to_vec()));
+        assert_eq!(
+            encrypt(&counting_key(), 1, &nonce, &expected),
+            Ok(content.to_vec())
+        );
     }
 
     #[test]
     fn the_counter_does_not_wrap() {
         let nonce = Nonce([0; 12]);
         let key = counting_key();
-        assert_eq!(encrypt(&key, u32::MAX, &nonce, &[0; 64]).map(|bytes| bytes.len()), Ok(64));
+        assert_eq!(
+            encrypt(&key, u32::MAX, &nonce, &[0; 64]).map(|bytes| bytes.len()),
+            Ok(64)
+        );
         assert_eq!(encrypt(&key, u32::MAX, &nonce, &[0; 65]), Err(TooLong));
-        assert_eq!(encrypt(&key, u32::MAX - 1, &nonce, &[0; 128]).map(|bytes| bytes.len()), Ok(128));
+        assert_eq!(
+            encrypt(&key, u32::MAX - 1, &nonce, &[0; 128]).map(|bytes| bytes.len()),
+            Ok(128)
+        );
         assert_eq!(encrypt(&key, u32::MAX - 1, &nonce, &[0; 129]), Err(TooLong));
         assert_eq!(encrypt(&key, u32::MAX, &nonce, &[]), Ok(Vec::new()));
     }

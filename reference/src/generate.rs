@@ -9,7 +9,7 @@ use crate::poly1305::TAG_LEN;
 
 /// The longest content.
 const LONGEST: usize = 4200;
-/// The longest marked bytes, and the longest message of a `mark` line.
+/// The longest marked bytes; `mark` lines have messages of every length up to this one.
 const LONGEST_MARKED: usize = 80;
 
 /// The splitmix64 generator.
@@ -143,7 +143,9 @@ impl Sealed {
     fn spoil(&mut self, spoil: Spoil, random: &mut Random) {
         let content_len = self.sealed.len() - TAG_LEN;
         match spoil {
-            Spoil::ContentBit if content_len > 0 => random.flip_bit(&mut self.sealed[..content_len]),
+            Spoil::ContentBit if content_len > 0 => {
+                random.flip_bit(&mut self.sealed[..content_len])
+            }
             Spoil::MarkBit | Spoil::ContentBit => random.flip_bit(&mut self.sealed[content_len..]),
             Spoil::KeyBit => random.flip_bit(&mut self.key.0),
             Spoil::NonceBit => random.flip_bit(&mut self.nonce.0),
@@ -174,12 +176,30 @@ struct Shape {
 }
 
 const SHAPES: [Shape; 6] = [
-    Shape { command: "seal", fields: &[Field::Key, Field::Nonce, Field::Marked, Field::Content] },
-    Shape { command: "open", fields: &[Field::Key, Field::Nonce, Field::Marked, Field::Sealed] },
-    Shape { command: "block", fields: &[Field::Key, Field::Counter, Field::Nonce] },
-    Shape { command: "stream", fields: &[Field::Key, Field::Counter, Field::Nonce, Field::Content] },
-    Shape { command: "once", fields: &[Field::Key, Field::Nonce] },
-    Shape { command: "mark", fields: &[Field::Once, Field::Message] },
+    Shape {
+        command: "seal",
+        fields: &[Field::Key, Field::Nonce, Field::Marked, Field::Content],
+    },
+    Shape {
+        command: "open",
+        fields: &[Field::Key, Field::Nonce, Field::Marked, Field::Sealed],
+    },
+    Shape {
+        command: "block",
+        fields: &[Field::Key, Field::Counter, Field::Nonce],
+    },
+    Shape {
+        command: "stream",
+        fields: &[Field::Key, Field::Counter, Field::Nonce, Field::Content],
+    },
+    Shape {
+        command: "once",
+        fields: &[Field::Key, Field::Nonce],
+    },
+    Shape {
+        command: "mark",
+        fields: &[Field::Once, Field::Message],
+    },
 ];
 
 /// The length that a field must have.
@@ -193,8 +213,18 @@ fn fixed_length(field: Field) -> Option<usize> {
 
 /// First words that are no command; the last two are not UTF-8.
 const UNKNOWN: [&[u8]; 12] = [
-    b"SEAL", b"Open", b"sea", b"seals", b"opened", b"-", b"0", b"seal,", b"once#", b"marking",
-    b"\xff\xfe", b"seal\xc3",
+    b"SEAL",
+    b"Open",
+    b"sea",
+    b"seals",
+    b"opened",
+    b"-",
+    b"0",
+    b"seal,",
+    b"once#",
+    b"marking",
+    b"\xff\xfe",
+    b"seal\xc3",
 ];
 
 /// Counters that are none.
@@ -214,28 +244,54 @@ const BAD_COUNTERS: [&str; 10] = [
 /// What is wrong with a malformed line.
 #[derive(Clone, Copy, Debug, PartialEq, Eq)]
 enum Fault {
-    UnknownCommand(usize),
-    FieldMissing { shape: usize },
-    NoFields { shape: usize },
-    FieldTooMany { shape: usize },
-    NotHexDigit { shape: usize, field: usize },
-    OddLength { shape: usize, field: usize },
-    Empty { shape: usize, field: usize },
-    Shorter { shape: usize, field: usize },
-    Longer { shape: usize, field: usize },
-    BadCounter { shape: usize, field: usize, counter: usize },
-    AllFields { shape: usize },
+    UnknownCommand,
+    SeveralFields,
+    FieldMissing {
+        shape: usize,
+    },
+    NoFields {
+        shape: usize,
+    },
+    FieldTooMany {
+        shape: usize,
+    },
+    NotHexDigit {
+        shape: usize,
+        field: usize,
+    },
+    OddLength {
+        shape: usize,
+        field: usize,
+    },
+    Empty {
+        shape: usize,
+        field: usize,
+    },
+    Shorter {
+        shape: usize,
+        field: usize,
+    },
+    Longer {
+        shape: usize,
+        field: usize,
+    },
+    BadCounter {
+        shape: usize,
+        field: usize,
+        counter: usize,
+    },
 }
 
 impl Fault {
-    /// Every kind of fault, at every field where it can be.
+    /// Every kind of fault, at every field where it can be; with one line in a hundred malformed, ten
+    /// thousand lines have them all.
     fn all() -> Vec<Fault> {
-        let mut faults: Vec<Fault> = (0..UNKNOWN.len()).map(Fault::UnknownCommand).collect();
+        let mut faults = vec![Fault::UnknownCommand; 4];
+        faults.push(Fault::SeveralFields);
         for (shape, Shape { fields, .. }) in SHAPES.iter().enumerate() {
             faults.push(Fault::FieldMissing { shape });
             faults.push(Fault::NoFields { shape });
             faults.push(Fault::FieldTooMany { shape });
-            faults.push(Fault::AllFields { shape });
             for (field, name) in fields.iter().enumerate() {
                 faults.extend(Fault::of_field(shape, field, *name));
             }
@@ -245,11 +301,20 @@ impl Fault {
 
     fn of_field(shape: usize, field: usize, name: Field) -> Vec<Fault> {
         if name == Field::Counter {
-            let counters = 0..BAD_COUNTERS.len();
-            return counters.map(|counter| Fault::BadCounter { shape, field, counter }).collect();
+            // `block` and `stream` stand beside each other, and share the counters between them.
+            let counters = (shape % 2..BAD_COUNTERS.len()).step_by(2);
+            return counters
+                .map(|counter| Fault::BadCounter {
+                    shape,
+                    field,
+                    counter,
+                })
+                .collect();
         }
-        let mut faults =
-            vec![Fault::NotHexDigit { shape, field }, Fault::OddLength { shape, field }];
+        let mut faults = vec![
+            Fault::NotHexDigit { shape, field },
+            Fault::OddLength { shape, field },
+        ];
         if fixed_length(name).is_some() {
             faults.push(Fault::Empty { shape, field });
             faults.push(Fault::Shorter { shape, field });
@@ -330,7 +395,12 @@ impl Generator {
         let marked = self.random.bytes(marked_len);
         let content = self.content(len);
         let sealed = aead::seal(&key, &nonce, &marked, &content).expect("a short content");
-        let mut parts = Sealed { key, nonce, marked, sealed };
+        let mut parts = Sealed {
+            key,
+            nonce,
+            marked,
+            sealed,
+        };
         if number % 2 == 1 {
             let spoil = self.random.pick(&Spoil::ALL);
             parts.spoil(spoil, &mut self.random);
@@ -360,7 +430,10 @@ impl Generator {
                 let blocks = (blocks_left + self.random.below(3)).saturating_sub(1);
                 (counter, around(blocks, self.random.below(3)))
             }
-            2 => (self.counter(), around(self.random.below(12), self.random.below(3))),
+            2 => (
+                self.counter(),
+                around(self.random.below(12), self.random.below(3)),
+            ),
             _ => (self.counter(), self.random.length()),
         };
         let words = [
@@ -382,15 +455,19 @@ impl Generator {
         self.join(&words)
     }
 
-    /// Every second line comes as near to the modulus as `near_modulus` makes it; the others have
-    /// every length of message in turn.
+    /// Of each four lines one comes near to the modulus, one has a longer message, and two have every
+    /// short length of message in turn.
     fn mark_line(&mut self) -> Vec<u8> {
         let number = next_number(&mut self.made.marks);
-        let (r, message) = match number % 2 {
+        let (r, message) = match number % 4 {
             0 => near_modulus(&mut self.random),
+            1 => {
+                let len = self.random.below(1000);
+                (self.first_half(), self.random_or_even(len))
+            }
             _ => {
                 let len = (number / 2) % (LONGEST_MARKED + 1);
-                (self.random.key_like(), self.random_or_even(len))
+                (self.first_half(), self.random_or_even(len))
             }
         };
         let s: [u8; 16] = match self.random.below(3) {
@@ -399,34 +476,39 @@ impl Generator {
             _ => self.random.array(),
         };
         let once = [r, s].concat();
-        self.join(&["mark".to_string(), hex::encode(&once), hex::encode(&message)])
+        self.join(&[
+            "mark".to_string(),
+            hex::encode(&once),
+            hex::encode(&message),
+        ])
+    }
+
+    /// The first half of a one-time key: random, or all ones, of which clamping leaves the largest
+    /// number there is.
+    fn first_half(&mut self) -> [u8; 16] {
+        match self.random.below(3) {
+            0 => [0xff; 16],
+            _ => self.random.key_like(),
+        }
     }
 
     /// The faults in turn.
     fn malformed_line(&mut self) -> Vec<u8> {
         let number = next_number(&mut self.made.malformed);
         let fault = self.faults[number % self.faults.len()];
-        if let Fault::UnknownCommand(which) = fault {
-            return self.unknown_line(UNKNOWN[which]);
-        }
-        let words = self.faulty_words(fault);
-        self.join(&words)
-    }
-
-    /// An unknown command before the fields of a known one.
-    fn unknown_line(&mut self, command: &[u8]) -> Vec<u8> {
-        let shape = self.random.below(SHAPES.len());
-        let mut line = command.to_vec();
-        for word in &self.right_words(shape)[1..] {
-            line.push(b' ');
-            line.extend(word.bytes());
-        }
-        line
-    }
-
-    fn faulty_words(&mut self, fault: Fault) -> Vec<String> {
-        match fault {
-            Fault::UnknownCommand(_) => vec!["unknown".to_string()],
+        let words = match fault {
+            Fault::UnknownCommand => return self.unknown_line(),
+            Fault::SeveralFields => {
+                let shape = self.random.below(SHAPES.len());
+                let mut words = self.right_words(shape);
+                for word in &mut words[1..] {
+                    *word = self
+                        .random
+                        .pick(&["0", "0g", "-0", "--", "00zz"])
+                        .to_string();
+                }
+                words
+            }
             Fault::FieldMissing { shape } => {
                 let mut words = self.right_words(shape);
                 words.pop();
@@ -438,23 +520,23 @@ impl Generator {
                 words.push(self.random.pick(&["-", "00", "#", "zz"]).to_string());
                 words
             }
-            Fault::AllFields { shape } => {
-                let mut words = self.right_words(shape);
-                for word in &mut words[1..] {
-                    *word = self.random.pick(&["0", "0g", "-0", "--", "00zz"]).to_string();
-                }
-                words
-            }
             Fault::NotHexDigit { shape, field } => self.with_field(shape, field, |word, random| {
-                let mut letters: Vec<char> = word.chars().collect();
+                let mut letters: Vec<char> = if word == "-" {
+                    vec!['0'; 2]
+                } else {
+                    word.chars().collect()
+                };
                 let place = random.below(letters.len());
                 letters[place] = random.pick(&['g', 'G', '/', ':', '@', '`', '-', 'x', 'é']);
-                // A single letter for one of a lone `-` could spell `-` again or be too short.
-                if letters.len() < 2 { "0g".to_string() } else { letters.into_iter().collect() }
+                letters.into_iter().collect()
             }),
             Fault::OddLength { shape, field } => self.with_field(shape, field, |word, random| {
                 let digit = random.pick(&['0', '7', 'a', 'F']);
-                if word == "-" { digit.to_string() } else { format!("{word}{digit}") }
+                if word == "-" {
+                    digit.to_string()
+                } else {
+                    format!("{word}{digit}")
+                }
             }),
             Fault::Empty { shape, field } => self.with_field(shape, field, |_, _| "-".to_string()),
             Fault::Shorter { shape, field } => {
@@ -463,10 +545,24 @@ impl Generator {
             Fault::Longer { shape, field } => {
                 self.with_field(shape, field, |word, _| format!("{word}00"))
             }
-            Fault::BadCounter { shape, field, counter } => {
-                self.with_field(shape, field, |_, _| BAD_COUNTERS[counter].to_string())
-            }
+            Fault::BadCounter {
+                shape,
+                field,
+                counter,
+            } => self.with_field(shape, field, |_, _| BAD_COUNTERS[counter].to_string()),
+        };
+        self.join(&words)
+    }
+
+    /// An unknown command before the fields of a known one.
+    fn unknown_line(&mut self) -> Vec<u8> {
+        let shape = self.random.below(SHAPES.len());
+        let mut line = self.random.pick(&UNKNOWN).to_vec();
+        for word in &self.right_words(shape)[1..] {
+            line.push(b' ');
+            line.extend(word.bytes());
         }
+        line
     }
 
     /// The words of a command, with one field changed.
@@ -501,8 +597,16 @@ impl Generator {
 
     /// Blank lines and comments in turn.
     fn passed_over_line(&mut self) -> Vec<u8> {
-        const LINES: [&str; 8] =
-            ["", " ", "\t", " \t  ", "\r", "# a comment", " \t# seal - - - -", "#seal"];
+        const LINES: [&str; 8] = [
+            "",
+            " ",
+            "\t",
+            " \t  ",
+            "\r",
+            "# a comment",
+            " \t# seal - - - -",
+            "#seal",
+        ];
         let number = next_number(&mut self.made.passed_over);
         LINES[number % LINES.len()].as_bytes().to_vec()
     }
@@ -553,7 +657,11 @@ impl Generator {
         let mut line = format!("{before}{command}");
         for field in fields {
             line.push_str(blank);
-            line.push_str(&if upper { field.to_ascii_uppercase() } else { field.clone() });
+            line.push_str(&if upper {
+                field.to_ascii_uppercase()
+            } else {
+                field.clone()
+            });
         }
         line.push_str(after);
         line.into_bytes()
@@ -682,8 +790,13 @@ mod tests {
         assert_eq!(answers["refused 3: does not open"], 2000);
         assert_eq!(answers["none"], 100);
         assert!(answers["refused: too long"] > 50);
-        let malformed = answers.iter().filter(|(answer, _)| answer.starts_with("malformed"));
-        assert_eq!(malformed.clone().map(|(_, times)| times).sum::<usize>(), 100);
+        let malformed = answers
+            .iter()
+            .filter(|(answer, _)| answer.starts_with("malformed"));
+        assert_eq!(
+            malformed.clone().map(|(_, times)| times).sum::<usize>(),
+            100
+        );
         // Unknown command; 2, 3 or 4 fields; seven byte strings not hex; three of another length; the
         // counter.
         assert_eq!(malformed.count(), 1 + 3 + 7 + 3 + 1);
@@ -704,6 +817,7 @@ mod tests {
     #[test]
     fn every_fault_is_malformed() {
         let mut generator = Generator::new(11);
+        assert!(generator.faults.len() <= COUNT / 100);
         for _ in 0..20 * generator.faults.len() {
             let line = generator.malformed_line();
             let answer = lines::answer(&line).expect("an answer");

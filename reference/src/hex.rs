@@ -5,10 +5,12 @@ pub fn decode(word: &[u8]) -> Option<Vec<u8>> {
     if word == b"-" {
         return Some(Vec::new());
     }
-    if word.len() % 2 != 0 {
+    if !word.len().is_multiple_of(2) {
         return None;
     }
-    word.chunks_exact(2).map(|pair| Some(16 * digit(pair[0])? + digit(pair[1])?)).collect()
+    word.chunks_exact(2)
+        .map(|pair| Some(16 * digit(pair[0])? + digit(pair[1])?))
+        .collect()
 }
 
 fn digit(letter: u8) -> Option<u8> {
@@ -22,8 +24,9 @@ fn digit(letter: u8) -> Option<u8> {
 
 /// Writes lower-case hex, or `-`.
 pub fn encode(bytes: &[u8]) -> String {
-    const DIGITS: [char; 16] =
-        ['0', '1', '2', '3', '4', '5', '6', '7', '8', '9', 'a', 'b', 'c', 'd', 'e', 'f'];
+    const DIGITS: [char; 16] = [
+        '0', '1', '2', '3', '4', '5', '6', '7', '8', '9', 'a', 'b', 'c', 'd', 'e', 'f',
+    ];
     if bytes.is_empty() {
         return "-".to_string();
     }
@@ -34,7 +37,10 @@ pub fn encode(bytes: &[u8]) -> String {
 /// A test's value of known length.
 #[cfg(test)]
 pub fn array<const N: usize>(word: &str) -> [u8; N] {
-    decode(word.as_bytes()).expect("hex").try_into().expect("the length")
+    decode(word.as_bytes())
+        .expect("hex")
+        .try_into()
+        .expect("the length")
 }
 
 #[cfg(test)]

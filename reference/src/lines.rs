@@ -90,12 +90,37 @@ impl From<TooLong> for Refusal {
 
 /// A line that is well formed.
 enum Command {
-    Seal { key: Key, nonce: Nonce, marked: Vec<u8>, content: Vec<u8> },
-    Open { key: Key, nonce: Nonce, marked: Vec<u8>, sealed: Vec<u8> },
-    Block { key: Key, counter: u32, nonce: Nonce },
-    Stream { key: Key, counter: u32, nonce: Nonce, content: Vec<u8> },
-    Once { key: Key, nonce: Nonce },
-    Mark { once: OneTimeKey, message: Vec<u8> },
+    Seal {
+        key: Key,
+        nonce: Nonce,
+        marked: Vec<u8>,
+        content: Vec<u8>,
+    },
+    Open {
+        key: Key,
+        nonce: Nonce,
+        marked: Vec<u8>,
+        sealed: Vec<u8>,
+    },
+    Block {
+        key: Key,
+        counter: u32,
+        nonce: Nonce,
+    },
+    Stream {
+        key: Key,
+        counter: u32,
+        nonce: Nonce,
+        content: Vec<u8>,
+    },
+    Once {
+        key: Key,
+        nonce: Nonce,
+    },
+    Mark {
+        once: OneTimeKey,
+        message: Vec<u8>,
+    },
 }
 
 impl Command {
@@ -158,18 +183,29 @@ impl Command {
     /// Carries the command out.
     fn run(&self) -> Result<Vec<u8>, Refusal> {
         match self {
-            Command::Seal { key, nonce, marked, content } => {
-                Ok(aead::seal(key, nonce, marked, content)?)
-            }
-            Command::Open { key, nonce, marked, sealed } => {
-                Ok(aead::open(key, nonce, marked, sealed)?)
-            }
-            Command::Block { key, counter, nonce } => {
-                Ok(chacha20::block(key, *counter, nonce).to_vec())
-            }
-            Command::Stream { key, counter, nonce, content } => {
-                Ok(chacha20::encrypt(key, *counter, nonce, content)?)
-            }
+            Command::Seal {
+                key,
+                nonce,
+                marked,
+                content,
+            } => Ok(aead::seal(key, nonce, marked, content)?),
+            Command::Open {
+                key,
+                nonce,
+                marked,
+                sealed,
+            } => Ok(aead::open(key, nonce, marked, sealed)?),
+            Command::Block {
+                key,
+                counter,
+                nonce,
+            } => Ok(chacha20::block(key, *counter, nonce).to_vec()),
+            Command::Stream {
+                key,
+                counter,
+                nonce,
+                content,
+            } => Ok(chacha20::encrypt(key, *counter, nonce, content)?),
             Command::Once { key, nonce } => {
                 let OneTimeKey(once) = aead::one_time_key(key, nonce);
                 Ok(once.to_vec())
@@ -184,7 +220,9 @@ impl Command {
 
 /// The fields, if there are as many as the command has.
 fn fields<'a, const N: usize>(words: &[&'a [u8]]) -> Result<[&'a [u8]; N], Malformed> {
-    words.try_into().map_err(|_| Malformed::FieldCount { expected: N })
+    words
+        .try_into()
+        .map_err(|_| Malformed::FieldCount { expected: N })
 }
 
 /// A byte string of any length.
@@ -195,7 +233,9 @@ fn bytes(field: Field, word: &[u8]) -> Result<Vec<u8>, Malformed> {
 /// A byte string of one length.
 fn fixed<const N: usize>(field: Field, word: &[u8]) -> Result<[u8; N], Malformed> {
     let bytes = bytes(field, word)?;
-    bytes.try_into().map_err(|_| Malformed::Length { field, expected: N })
+    bytes
+        .try_into()
+        .map_err(|_| Malformed::Length { field, expected: N })
 }
 
 /// Decimal digits, however many, that make a number of at most 32 bits.
@@ -272,7 +312,10 @@ mod tests {
         assert_answer("stream - - -", "malformed: expected 4 fields");
         assert_answer("once", "malformed: expected 2 fields");
         assert_answer("mark - - -", "malformed: expected 2 fields");
-        assert_eq!(answer(b"\xff\xfe").as_deref(), Some("malformed: unknown command"));
+        assert_eq!(
+            answer(b"\xff\xfe").as_deref(),
+            Some("malformed: unknown command")
+        );
     }
 
     #[test]
@@ -280,17 +323,40 @@ mod tests {
         assert_answer("once 0 zz", "malformed: KEY is not hex");
         assert_answer("once - zz", "malformed: KEY must be 32 bytes");
         assert_answer(&format!("once {KEY} zz"), "malformed: NONCE is not hex");
-        assert_answer(&format!("once {KEY} 00"), "malformed: NONCE must be 12 bytes");
-        assert_answer(&format!("mark {NONCE} z"), "malformed: ONCE must be 32 bytes");
+        assert_answer(
+            &format!("once {KEY} 00"),
+            "malformed: NONCE must be 12 bytes",
+        );
+        assert_answer(
+            &format!("mark {NONCE} z"),
+            "malformed: ONCE must be 32 bytes",
+        );
         assert_answer(&format!("mark {KEY} z"), "malformed: MESSAGE is not hex");
-        assert_answer(&format!("seal {KEY} {NONCE} 0 0"), "malformed: MARKED is not hex");
-        assert_answer(&format!("seal {KEY} {NONCE} 00 0"), "malformed: CONTENT is not hex");
-        assert_answer(&format!("open {KEY} {NONCE} 00 0"), "malformed: SEALED is not hex");
+        assert_answer(
+            &format!("seal {KEY} {NONCE} 0 0"),
+            "malformed: MARKED is not hex",
+        );
+        assert_answer(
+            &format!("seal {KEY} {NONCE} 00 0"),
+            "malformed: CONTENT is not hex",
+        );
+        assert_answer(
+            &format!("open {KEY} {NONCE} 00 0"),
+            "malformed: SEALED is not hex",
+        );
     }
 
     #[test]
     fn counters() {
-        for bad in ["4294967296", "-", "-1", "+1", "1.0", "0x1", "99999999999999999999999"] {
+        for bad in [
+            "4294967296",
+            "-",
+            "-1",
+            "+1",
+            "1.0",
+            "0x1",
+            "99999999999999999999999",
+        ] {
             assert_answer(
                 &format!("block {KEY} {bad} 0"),
                 "malformed: COUNTER must be a number up to 4294967295",
@@ -303,9 +369,18 @@ mod tests {
     #[test]
     fn refusals() {
         let two_blocks = "00".repeat(65);
-        assert_answer(&format!("stream {KEY} 4294967295 {NONCE} {two_blocks}"), "refused: too long");
-        assert_answer(&format!("open {KEY} {NONCE} - -"), "refused 3: does not open");
+        assert_answer(
+            &format!("stream {KEY} 4294967295 {NONCE} {two_blocks}"),
+            "refused: too long",
+        );
+        assert_answer(
+            &format!("open {KEY} {NONCE} - -"),
+            "refused 3: does not open",
+        );
         let wrong = "00".repeat(16);
-        assert_answer(&format!("open {KEY} {NONCE} - {wrong}"), "refused 3: does not open");
+        assert_answer(
+            &format!("open {KEY} {NONCE} - {wrong}"),
+            "refused 3: does not open",
+        );
     }
 }

@@ -27,9 +27,10 @@ impl Task {
         let words: Vec<&str> = words.iter().map(String::as_str).collect();
         match words[..] {
             ["lines"] => Some(Task::Lines),
-            ["generate", seed, count] => {
-                Some(Task::Generate { seed: seed.parse().ok()?, count: count.parse().ok()? })
-            }
+            ["generate", seed, count] => Some(Task::Generate {
+                seed: seed.parse().ok()?,
+                count: count.parse().ok()?,
+            }),
             _ => None,
         }
     }

@@ -151,7 +151,9 @@ pub fn tag(key: &OneTimeKey, message: &[u8]) -> Tag {
 }
 
 fn lowest_16_bytes(number: &Number<5>) -> Tag {
-    Tag(std::array::from_fn(|i| number.0[i / 4].to_le_bytes()[i % 4]))
+    Tag(std::array::from_fn(|i| {
+        number.0[i / 4].to_le_bytes()[i % 4]
+    }))
 }
 
 #[cfg(test)]
@@ -174,22 +176,43 @@ mod tests {
 
     #[test]
     fn clamping_of_2_5_2() {
-        let key = key("85d6be7857556d337f4452fe42d506a8", "0103808afb0db2fd4abff6af4149f51b");
-        assert_eq!(key.r().0, [0x08bed685, 0x036d5554, 0x0e52447c, 0x0806d540, 0]);
+        let key = key(
+            "85d6be7857556d337f4452fe42d506a8",
+            "0103808afb0db2fd4abff6af4149f51b",
+        );
+        assert_eq!(
+            key.r().0,
+            [0x08bed685, 0x036d5554, 0x0e52447c, 0x0806d540, 0]
+        );
     }
 
     #[test]
     fn mark_of_2_5_2() {
-        let key = key("85d6be7857556d337f4452fe42d506a8", "0103808afb0db2fd4abff6af4149f51b");
-        assert_tag(key, b"Cryptographic Forum Research Group", "a8061dc1305136c6c22b8baf0c0127a9");
+        let key = key(
+            "85d6be7857556d337f4452fe42d506a8",
+            "0103808afb0db2fd4abff6af4149f51b",
+        );
+        assert_tag(
+            key,
+            b"Cryptographic Forum Research Group",
+            "a8061dc1305136c6c22b8baf0c0127a9",
+        );
     }
 
     #[test]
     fn edges_of_appendix_a_3() {
         let all_ones: [u8; 16] = hex::array(ALL_ONES);
         assert_tag(key(ZERO, ZERO), &[0; 64], ZERO);
-        assert_tag(key(TWO, ZERO), &all_ones, "03000000000000000000000000000000");
-        assert_tag(key(TWO, ALL_ONES), &hex::array::<16>(TWO), "03000000000000000000000000000000");
+        assert_tag(
+            key(TWO, ZERO),
+            &all_ones,
+            "03000000000000000000000000000000",
+        );
+        assert_tag(
+            key(TWO, ALL_ONES),
+            &hex::array::<16>(TWO),
+            "03000000000000000000000000000000",
+        );
         assert_tag(
             key(ONE, ZERO),
             &hex::array::<48>(
@@ -223,7 +246,10 @@ mod tests {
         let small = |digit| Number([digit, 0, 0, 0, 0]);
         assert_eq!(widened(P, 0).modulo_p(), Number::ZERO);
         assert_eq!(widened(P, 4).modulo_p(), small(4));
-        assert_eq!(widened(P.minus(&small(1)), 0).modulo_p(), P.minus(&small(1)));
+        assert_eq!(
+            widened(P.minus(&small(1)), 0).modulo_p(),
+            P.minus(&small(1))
+        );
         assert_eq!(widened(P.plus(&P), 3).modulo_p(), small(3));
         // 2^130 is P + 5, and (P - 1) * (P - 1) is 1 modulo P.
         assert_eq!(widened(Number([0, 0, 0, 0, 4]), 0).modulo_p(), small(5));

@@ -71,3 +71,16 @@ four-bytes x =
     let a : x / 65536 ≡ x / 256 / 256 = omega arith in
     let b : x / 16777216 ≡ x / 256 / 256 / 256 = omega arith in
     rw (a, b)
+
+-- The eight bytes of a word, one by one.
+pub eight-bytes : (x : ℕ)
+    → (x % 256) ∷ (x / 256 % 256) ∷ (x / 65536 % 256) ∷ (x / 16777216 % 256) ∷ (x / 4294967296 % 256) ∷ (x / 1099511627776 % 256) ∷ (x / 281474976710656 % 256) ∷ (x / 72057594037927936 % 256) ∷ [] ≡ leBytes 8 x
+unfolding leBytes
+eight-bytes x =
+    let a : x / 65536 ≡ x / 256 / 256 = omega arith in
+    let b : x / 16777216 ≡ x / 256 / 256 / 256 = omega arith in
+    let c : x / 4294967296 ≡ x / 256 / 256 / 256 / 256 = omega arith in
+    let d : x / 1099511627776 ≡ x / 256 / 256 / 256 / 256 / 256 = omega arith in
+    let e : x / 281474976710656 ≡ x / 256 / 256 / 256 / 256 / 256 / 256 = omega arith in
+    let f : x / 72057594037927936 ≡ x / 256 / 256 / 256 / 256 / 256 / 256 / 256 = omega arith in
+    rw (a, b, c, d, e, f)

@@ -38,6 +38,14 @@ pub fn put_u32(out: &mut [u8], at: usize, word: u32)
     out[at..at + 4].copy_from_slice(&word.to_le_bytes());
 }
 
+// Eight bytes that write a word.
+pub fn put_u64(out: &mut [u8], at: usize, word: u64)
+    requires { ⌜ at + 8 ≤ length (now out) ⌝ }
+    ensures { λ _. ⌜ now (out .exit) ≡ take at (now (out .entry)) ++ (leBytes 8 word ++ drop (at + 8) (now (out .entry))) ⌝ }
+{
+    out[at..at + 8].copy_from_slice(&word.to_le_bytes());
+}
+
 // A buffer cleared to zeros.
 pub fn wipe(buffer: &mut [u8])
     ensures { λ _. ⌜ now (buffer .exit) ≡ replicate (length (now (buffer .entry))) 0 ⌝ }

@@ -36,9 +36,10 @@ written-more ws was out i h l e p =
     let d = length-drop (4 * i + 4) was in
     let n : length (take (4 * i) was ++ leBytes 4 (getD ws i 0)) ≡ 4 * (i + 1) = simp length-append (omega arith) in
     let f = e ∙ sym (append-assoc (take (4 * i) was) (leBytes 4 (getD ws i 0)) (drop (4 * i + 4) was)) in
-    let g = take-at (take (4 * i) was ++ leBytes 4 (getD ws i 0)) (drop (4 * i + 4) was) (4 * (i + 1)) n in
-    (ap (take (4 * (i + 1))) f ∙ g ∙ ap (λ (x : List ℕ). x ++ leBytes 4 (getD ws i 0)) p ∙ sym (serialize-more ws i h),
-    rw f (simp length-append (omega arith)))
+    let g = take-at (take (4 * i) was ++ leBytes 4 (getD ws i 0)) (drop (4 * i + 4) was) (4 * (i + 1)) n in (
+      ap (take (4 * (i + 1))) f ∙ g ∙ ap (λ (x : List ℕ). x ++ leBytes 4 (getD ws i 0)) p ∙ sym (serialize-more ws i h),
+      rw f (simp length-append (omega arith)),
+    )
 
 length-serialize : (ws : List ℕ) → length (serialize ws) ≡ 4 * length ws
 unfolding serialize
@@ -122,17 +123,19 @@ encrypt-one key counter nonce text h l =
 module _ (was : List ℕ) (n k : ℕ) (fits : n + k ≤ length was) (few : k ≤ 64) (whole : (k ≡ 64) ⊎ (n + k ≡ length was)) where
   next-part : take 64 (drop n was) ≡ take k (drop n was)
   next-part =
-    elim whole [
-      inl e ↦ ap (λ j. take j (drop n was)) (sym e)
-    | inr e ↦
-        let l = length-drop n was in
-        take-all 64 (drop n was) (omega arith) ∙ sym (take-all k (drop n was) (omega arith)) ]
+      elim whole [
+        | inl e ↦ ap (λ j. take j (drop n was)) (sym e)
+        | inr e ↦
+            let l = length-drop n was in
+            take-all 64 (drop n was) (omega arith) ∙ sym (take-all k (drop n was) (omega arith))
+      ]
 
   next-rest : drop k (drop n was) ≡ drop (n + 64) was
   next-rest =
-    elim whole [
-      inl e ↦ drop-drop k n was ∙ ap (λ j. drop (n + j) was) e
-    | inr e ↦ drop-drop k n was ∙ drop-all (n + k) was (omega arith) ∙ sym (drop-all (n + 64) was (omega arith)) ]
+      elim whole [
+        | inl e ↦ drop-drop k n was ∙ ap (λ j. drop (n + j) was) e
+        | inr e ↦ drop-drop k n was ∙ drop-all (n + k) was (omega arith) ∙ sym (drop-all (n + 64) was (omega arith))
+      ]
 
 -- A front that is longer by m.
 take-add : (was : List ℕ) (n m : ℕ) → take (n + m) was ≡ take n was ++ take m (drop n was)
@@ -158,10 +161,10 @@ encrypt-more key counter nonce was s part i k e fits pos few whole p =
     let b : drop (64 * i) s ≡ drop (64 * i) was = ap (drop (64 * i)) e ∙ drop-at (encrypt key counter nonce (take (64 * i) was)) (drop (64 * i) was) (64 * i) le in
     let n : 64 * (i + 1) ≡ 64 * i + 64 = omega arith in
     let q : part ≡ encrypt key (counter + i) nonce (take k (drop (64 * i) was)) =
-      p ∙ ap (λ (x : List ℕ). zip2 bitXor (take k x) (block key (counter + i) nonce)) b
-      ∙ sym (encrypt-one key (counter + i) nonce (take k (drop (64 * i) was)) (omega arith) (omega arith)) in
+    p ∙ ap (λ (x : List ℕ). zip2 bitXor (take k x) (block key (counter + i) nonce)) b
+    ∙ sym (encrypt-one key (counter + i) nonce (take k (drop (64 * i) was)) (omega arith) (omega arith)) in
     let t : take (64 * i + 64) was ≡ take (64 * i) was ++ take k (drop (64 * i) was) =
-      take-add was (64 * i) 64 ∙ ap (λ (x : List ℕ). take (64 * i) was ++ x) (next-part was (64 * i) k fits few whole) in
+    take-add was (64 * i) 64 ∙ ap (λ (x : List ℕ). take (64 * i) was ++ x) (next-part was (64 * i) k fits few whole) in
     rw (n, a, b, q, t, encrypt-append key counter nonce (take (64 * i) was) (take k (drop (64 * i) was)) i lf, next-rest was (64 * i) k fits few whole)
     (sym (append-assoc (encrypt key counter nonce (take (64 * i) was)) (encrypt key (counter + i) nonce (take k (drop (64 * i) was))) (drop (64 * i + 64) was)))
 

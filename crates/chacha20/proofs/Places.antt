@@ -14,7 +14,7 @@ pub zip-more : (f : ℕ → ℕ → ℕ) (xs ys s : List ℕ) (i : ℕ) → i < 
     → ((k : ℕ) → k < i → getD s k 0 ≡ f (getD xs k 0) (getD ys k 0))
     → ((k : ℕ) → i ≤ k → getD s k 0 ≡ getD xs k 0)
     → ((k : ℕ) → k < i + 1 → getD (set s i (f (getD s i 0) (getD ys i 0))) k 0 ≡ f (getD xs k 0) (getD ys k 0))
-      × ((k : ℕ) → i + 1 ≤ k → getD (set s i (f (getD s i 0) (getD ys i 0))) k 0 ≡ getD xs k 0)
+    × ((k : ℕ) → i + 1 ≤ k → getD (set s i (f (getD s i 0) (getD ys i 0))) k 0 ≡ getD xs k 0)
 zip-more f xs ys s i h p q =
     (λ k l. grind (arith, getD-set-same, getD-set-other, cases-eq k i), λ k l. grind (arith, getD-set-other))
 

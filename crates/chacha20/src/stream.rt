@@ -6,8 +6,7 @@ ghost use lib.ListN.{length, take, drop};
 ghost use lib.Lanes.{zip2};
 ghost use lib.Bits.{bitXor};
 ghost use Rattle.chacha20.specs.ChaCha20.{initial, serialize, mixed, output, blocks, block as blockOf, encrypt as encrypted};
-ghost use Rattle.chacha20.specs.Stream.{idle, advanced};
-ghost use Rattle.std.specs.declared.result.Result.the-variants.{Ok, Err};
+ghost use Rattle.chacha20.specs.Stream.{idle, advanced, Encrypts};
 use crate::rounds::mix;
 
 // "expand 32-byte k"
@@ -27,6 +26,7 @@ const COUNTER: usize = 12;
 pub struct TooLong;
 
 // A key stream under way: the state that the next block begins from, the state that is worked on, and the block. All of it is secret, so it is lent, heap-held by its owner, and zeros whenever no call is under way.
+#[derive(Drop)]
 pub struct Stream {
     input: [u32; 16],
     state: [u32; 16],
@@ -81,7 +81,20 @@ impl Stream {
     pub fn new() -> Stream
         ensures { λ r. ⌜ r ≡ idle ⌝ }
     {
-        Stream { input: [0; 16], state: [0; 16], block: [0; 64] }
+        Stream {
+            input: [0; 16],
+            state: [0; 16],
+            block: [0; 64],
+        }
+    }
+
+    // The block of the state that it begins from.
+    fn make_block(&mut self)
+        ensures block { λ _. ⌜ now (self .exit) .block ≡ output (now (self .entry) .input) ⌝ }
+        ensures input { λ _. ⌜ now (self .exit) .input ≡ now (self .entry) .input ⌝ }
+    {
+        mix(&self.input, &mut self.state);
+        serialize_into(&self.state, &mut self.block);
     }
 
     // The next block; the counter goes on.
@@ -89,8 +102,7 @@ impl Stream {
         ensures block { λ _. ⌜ now (self .exit) .block ≡ output (now (self .entry) .input) ⌝ }
         ensures input { λ _. ⌜ now (self .exit) .input ≡ advanced (now (self .entry) .input) ⌝ }
     {
-        mix(&self.input, &mut self.state);
-        serialize_into(&self.state, &mut self.block);
+        self.make_block();
         self.input[COUNTER] = self.input[COUNTER].wrapping_add(1);
     }
 
@@ -124,17 +136,21 @@ impl Stream {
         ensures wiped { λ _. ⌜ now (self .exit) ≡ idle ⌝ }
     {
         self.input = initial_state(key, counter, nonce);
-        self.next_block();
+        self.make_block();
         let made = self.block;
         *out = made;
         self.wipe();
     }
 
     // Encrypts or decrypts a text in place. One that would take the counter past its 32 bits is refused, and stays as it was.
-    pub fn encrypt(&mut self, key: &[u8; 32], counter: u32, nonce: &[u8; 12], text: &mut [u8]) -> Result<(), TooLong>
-        ensures value { λ r. ⌜ elim r [
-            Ok _ ↦ (counter + blocks (length (now (text .entry))) ≤ 2 ^ 32) × (now (text .exit) ≡ encrypted (now (key .entry)) counter (now (nonce .entry)) (now (text .entry)))
-          | Err _ ↦ (2 ^ 32 < counter + blocks (length (now (text .entry)))) × (now (text .exit) ≡ now (text .entry)) ] ⌝ }
+    pub fn encrypt(
+        &mut self,
+        key: &[u8; 32],
+        counter: u32,
+        nonce: &[u8; 12],
+        text: &mut [u8],
+    ) -> Result<(), TooLong>
+        ensures value { λ r. ⌜ Encrypts (now (key .entry)) counter (now (nonce .entry)) (now (text .entry)) r (now (text .exit)) ⌝ }
         ensures wiped { λ _. ⌜ now (self .exit) ≡ idle ⌝ }
     {
         if u64::from(counter) + text.len().div_ceil(BLOCK) as u64 > BLOCKS {

@@ -27,12 +27,13 @@ loop-i-again c =
     let i = c .loop-i .i in
     let m : (c .args .counter + c .loop-i .i) % 2 ^ 32 ≡ c .args .counter + c .loop-i .i = omega arith in
     let next : ((c .args .counter + c .loop-i .i) % 2 ^ 32 + 1) % 2 ^ 32 ≡ (c .args .counter + (c .loop-i .i + 1)) % 2 ^ 32 = omega arith in
-    let b = c .next-block .ensures .block ∙ ap output (c .loop-i .inv .1 ∙ ap (λ n. initial (c .args .key .now) n (c .args .nonce .now)) m) in
-    (encrypt-more (c .args .key .now) (c .args .counter) (c .args .nonce .now) (c .args .text .now) (c .loop-i .text) (c .xor-block .last .part) (c .loop-i .i) (c .min-end .result - 64 * c .loop-i .i)
-      (c .loop-i .inv .0) (omega arith) (omega arith) (omega arith)
-      (last-or-whole (64 * c .loop-i .i) (length (c .args .text .now)) (c .min-end .result) (c .min-end .ensures) (omega arith))
-      (rw b at (c .xor-block .ensures)),
-    c .next-block .ensures .input ∙ ap advanced (c .loop-i .inv .1) ∙ advance (c .args .key .now) ((c .args .counter + c .loop-i .i) % 2 ^ 32) (c .args .nonce .now) ∙ ap (λ n. initial (c .args .key .now) n (c .args .nonce .now)) next)
+    let b = c .next-block .ensures .block ∙ ap output (c .loop-i .inv .1 ∙ ap (λ n. initial (c .args .key .now) n (c .args .nonce .now)) m) in (
+      encrypt-more (c .args .key .now) (c .args .counter) (c .args .nonce .now) (c .args .text .now) (c .loop-i .text) (c .xor-block .last .part) (c .loop-i .i) (c .min-end .result - 64 * c .loop-i .i)
+          (c .loop-i .inv .0) (omega arith) (omega arith) (omega arith)
+          (last-or-whole (64 * c .loop-i .i) (length (c .args .text .now)) (c .min-end .result) (c .min-end .ensures) (omega arith))
+          (rw b at (c .xor-block .ensures)),
+      c .next-block .ensures .input ∙ ap advanced (c .loop-i .inv .1) ∙ advance (c .args .key .now) ((c .args .counter + c .loop-i .i) % 2 ^ 32) (c .args .nonce .now) ∙ ap (λ n. initial (c .args .key .now) n (c .args .nonce .now)) next,
+    )
 
 pub returns : need.returns
 returns c =

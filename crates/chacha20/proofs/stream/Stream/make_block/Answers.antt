@@ -1,6 +1,6 @@
 use borrow.Author.Needs.{needs}
 use mathlib.Core.Path.{_≡_, ap, _∙_}
-use Rattle.chacha20.proofs.stream.Stream.next_block.Needs as need
+use Rattle.chacha20.proofs.stream.Stream.make_block.Needs as need
 use Rattle.chacha20.specs.ChaCha20.{output, serialize}
 
 pub returns : need.returns

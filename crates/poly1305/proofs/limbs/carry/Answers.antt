@@ -1,0 +1,11 @@
+use native.Mathlib.Omega.{arith}
+use Rattle.poly1305.proofs.limbs.carry.Needs as need
+use Rattle.poly1305.proofs.Field.{low26, carry-keeps}
+
+pub returns : need.returns
+returns c =
+    record {
+      carried =
+          (simp low26 (omega arith), simp low26 (omega arith), simp low26 (omega arith), simp low26 (omega arith), simp low26 (omega arith));
+      value = carry-keeps (c .args .d0) (c .args .d1) (c .args .d2) (c .args .d3) (c .args .d4);
+    }

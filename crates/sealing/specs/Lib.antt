@@ -1,0 +1,3 @@
+pub mod Aead
+pub mod Work
+pub mod Open
