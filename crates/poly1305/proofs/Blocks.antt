@@ -1,14 +1,14 @@
 -- Blocks as words, and the last block of a part.
 use mathlib.Core.Path.{_≡_, refl, sym, ap, _∙_}
 use mathlib.Core.List.{List, [], _∷_, _++_}
-use Prim.Native.Nat.{ℕ, zero, suc, _<_, _≤_, _+_, _-_, _*_, _/_, _%_, _^_}
+use Prim.Native.Nat.{ℕ, suc, _<_, _≤_, _+_, _-_, _*_, _/_, _%_, _^_}
 use native.Mathlib.Omega.{arith}
 use native.Mathlib.Nat.{div-div-eq-div-mul}
 use lib.ListN.{length, take, drop, set, replicate}
 use Rattle.std.proofs.shelf.Lists.{length-append, length-take-le, length-drop, length-replicate, take-append-drop, take-take, drop-take, drop-drop, take-all, drop-append-le, append-assoc, append-nil, set-append-right, drop-replicate}
 use Rattle.bytes.specs.Endian.{le, leBytes}
 use Rattle.bytes.proofs.Laws.{le-append, le-one, le-zeros, leBytes-mod}
-use Rattle.poly1305.specs.Poly1305.{prime, absorb, absorbAll, blocks, padded}
+use Rattle.poly1305.specs.Poly1305.{prime, clamp, absorb, absorbAll, blocks, padded, mac}
 use Rattle.poly1305.proofs.Field.{reduced-first}
 use Rattle.poly1305.proofs.Laws.{absorbAll-more, absorbAll-front}
 
@@ -44,13 +44,13 @@ unfolding absorb
 absorbed r h x a b block e f g =
     g ∙ sym (reduced-first h b r) ∙ ap (λ n. ((n + b) * r) % prime) e ∙ ap (λ n. ((a + n) * r) % prime) (sym f)
 
--- A block filled up after the bytes xs.
-pub filled : (xs : List ℕ) (k end : ℕ) → length xs ≡ k → k < 16
-    → set (xs ++ drop k (replicate 16 0)) k end ≡ xs ++ end ∷ replicate (15 - k) 0
-filled xs k end e h =
+-- A block filled up after the bytes xs: the byte `end` at k, where they stop.
+pub filled : (ys xs : List ℕ) (d at k end : ℕ) → ys ≡ xs → length xs ≡ k → k < 16 → d ≡ k → at ≡ k
+    → set (ys ++ drop d (replicate 16 0)) at end ≡ xs ++ end ∷ replicate (15 - k) 0
+filled ys xs d at k end e l h f g =
     let j : k - k ≡ 0 = omega arith in
     let s : 16 - k ≡ suc (15 - k) = omega arith in
-    set-append-right xs (drop k (replicate 16 0)) k k end e (omega arith) ∙ rw (drop-replicate {X = ℕ} k 16 0, j, s)
+    rw (e, f, g) (set-append-right xs (drop k (replicate 16 0)) k k end l (omega arith) ∙ rw (drop-replicate {X = ℕ} k 16 0, j, s))
 
 -- The number of a block that is filled up, with or without the mark after it.
 filled-number : (t : List ℕ) (b k : ℕ) → le (t ++ b ∷ replicate k 0) ≡ le (t ++ b ∷ [])
@@ -68,39 +68,38 @@ block-words : (block : List ℕ) → length block ≡ 16 → le block ≡ le (ta
 block-words block h =
     sym (ap le (take-all 16 block (omega arith))) ∙ two-words block 0 8 (omega arith) refl
 
--- After the last block of a part, with its mark inside the block.
-pub last-short : (r a h x lo hi : ℕ) (m block : List ℕ) → 0 < length m % 16
-    → block ≡ drop (16 * (length m / 16)) m ++ 1 ∷ replicate (15 - length m % 16) 0
-    → lo ≡ le (take 8 block) → hi ≡ le (take 8 (drop 8 block))
-    → h % prime ≡ absorbAll r a (length m / 16) m
-    → x % prime ≡ ((h + (lo + 2 ^ 64 * hi + 2 ^ 104 * 0)) * r) % prime
+-- After the last block of a part, with its mark inside the block: b is the number that was added.
+pub last-short : (r a h x b lo hi end : ℕ) (m block : List ℕ) → 0 < length m % 16
+    → end ≡ 1 → block ≡ drop (16 * (length m / 16)) m ++ end ∷ replicate (15 - length m % 16) 0
+    → lo ≡ le (take 8 block) → hi ≡ le (take 8 (drop 8 block)) → b ≡ lo + 2 ^ 64 * hi
+    → h % prime ≡ absorbAll r a (length m / 16) m → x % prime ≡ ((h + b) * r) % prime
     → x % prime ≡ absorbAll r a (blocks (length m)) m
 unfolding blocks
-last-short r a h x lo hi m block n e f g i j =
+last-short r a h x b lo hi end m block n o e f g k i j =
     let c : (length m + 15) / 16 ≡ length m / 16 + 1 = omega arith in
     let t : take 16 (drop (16 * (length m / 16)) m) ≡ drop (16 * (length m / 16)) m = take-all 16 _ (simp length-drop (omega arith)) in
-    let l : length block ≡ 16 = ap length e ∙ length-filled m 1 in
+    let l : length block ≡ 16 = ap length e ∙ length-filled m end in
     let w = block-words block l in
-    let b = ap le e ∙ filled-number (drop (16 * (length m / 16)) m) 1 (15 - length m % 16) in
-    let v : le (drop (16 * (length m / 16)) m ++ 1 ∷ []) ≡ lo + 2 ^ 64 * hi + 2 ^ 104 * 0 = omega arith in
-    absorbed r h x (absorbAll r a (length m / 16) m) _ (drop (16 * (length m / 16)) m) i v j
+    let p = ap le e ∙ filled-number (drop (16 * (length m / 16)) m) end (15 - length m % 16) ∙ ap (λ z. le (drop (16 * (length m / 16)) m ++ z ∷ [])) o in
+    let v : le (drop (16 * (length m / 16)) m ++ 1 ∷ []) ≡ b = omega arith in
+    absorbed r h x (absorbAll r a (length m / 16) m) b (drop (16 * (length m / 16)) m) i v j
     ∙ ap (absorb r (absorbAll r a (length m / 16) m)) (sym t)
     ∙ sym (absorbAll-more r a (length m / 16) m)
-    ∙ ap (λ k. absorbAll r a k m) (sym c)
+    ∙ ap (λ z. absorbAll r a z m) (sym c)
 
 -- After the last block of a part, filled up with zeros.
-pub last-padded : (r a h x lo hi : ℕ) (m block : List ℕ) → 0 < length m % 16
-    → block ≡ drop (16 * (length m / 16)) m ++ 0 ∷ replicate (15 - length m % 16) 0
-    → lo ≡ le (take 8 block) → hi ≡ le (take 8 (drop 8 block))
-    → h % prime ≡ absorbAll r a (length m / 16) m
-    → x % prime ≡ ((h + (lo + 2 ^ 64 * hi + 2 ^ 104 * 2 ^ 24)) * r) % prime
+pub last-padded : (r a h x b lo hi end : ℕ) (m block : List ℕ) → 0 < length m % 16
+    → end ≡ 0 → block ≡ drop (16 * (length m / 16)) m ++ end ∷ replicate (15 - length m % 16) 0
+    → lo ≡ le (take 8 block) → hi ≡ le (take 8 (drop 8 block)) → b ≡ lo + 2 ^ 64 * hi + 2 ^ 128
+    → h % prime ≡ absorbAll r a (length m / 16) m → x % prime ≡ ((h + b) * r) % prime
     → x % prime ≡ absorbAll r a (blocks (length m)) (padded m)
 unfolding blocks padded
-last-padded r a h x lo hi m block n e f g i j =
+last-padded r a h x b lo hi end m block n y e f g k i j =
     let c : (length m + 15) / 16 ≡ length m / 16 + 1 = omega arith in
-    let k : 16 * ((length m + 15) / 16) - length m ≡ suc (15 - length m % 16) = omega arith in
-    let l : length block ≡ 16 = ap length e ∙ length-filled m 0 in
-    let s : padded m ≡ m ++ 0 ∷ replicate (15 - length m % 16) 0 = ap (λ z. m ++ replicate z 0) k in
+    let z : 16 * ((length m + 15) / 16) - length m ≡ suc (15 - length m % 16) = omega arith in
+    let l : length block ≡ 16 = ap length e ∙ length-filled m end in
+    let s : padded m ≡ m ++ end ∷ replicate (15 - length m % 16) 0
+    = ap (λ d. m ++ replicate d 0) z ∙ ap (λ d. m ++ d ∷ replicate (15 - length m % 16) 0) (sym y) in
     let d : drop (16 * (length m / 16)) (padded m) ≡ block
     = ap (drop (16 * (length m / 16))) s ∙ drop-append-le (16 * (length m / 16)) m _ (omega arith) ∙ sym e in
     let t : take 16 (drop (16 * (length m / 16)) (padded m)) ≡ block = ap (take 16) d ∙ take-all 16 block (omega arith) in
@@ -108,9 +107,9 @@ last-padded r a h x lo hi m block n e f g i j =
     let p = le-append block (1 ∷ []) in
     let o = ap (λ z. 256 ^ z * le (1 ∷ [])) l in
     let u = le-one 1 in
-    let v : le (block ++ 1 ∷ []) ≡ lo + 2 ^ 64 * hi + 2 ^ 104 * 2 ^ 24 = omega arith in
+    let v : le (block ++ 1 ∷ []) ≡ b = omega arith in
     let q : h % prime ≡ absorbAll r a (length m / 16) (padded m) = i ∙ sym (absorbAll-front r a (length m / 16) m _ (omega arith)) in
-    absorbed r h x (absorbAll r a (length m / 16) (padded m)) _ block q v j
+    absorbed r h x (absorbAll r a (length m / 16) (padded m)) b block q v j
     ∙ ap (absorb r (absorbAll r a (length m / 16) (padded m))) (sym t)
     ∙ sym (absorbAll-more r a (length m / 16) (padded m))
     ∙ ap (λ z. absorbAll r a z (padded m)) (sym c)
@@ -127,14 +126,16 @@ padded-whole m h =
     ap (λ n. m ++ replicate n 0) k ∙ append-nil m
 
 -- 16 bytes of a number, one by one.
-pub sixteen-bytes : (x : ℕ)
-    → (x % 256) ∷ (x / 256 % 256) ∷ (x / 65536 % 256) ∷ (x / 16777216 % 256) ∷ (x / 4294967296 % 256) ∷ (x / 1099511627776 % 256) ∷ (x / 281474976710656 % 256) ∷ (x / 72057594037927936 % 256) ∷ (x / 18446744073709551616 % 256) ∷ (x / 4722366482869645213696 % 256) ∷ (x / 1208925819614629174706176 % 256) ∷ (x / 309485009821345068724781056 % 256) ∷ (x / 79228162514264337593543950336 % 256) ∷ (x / 20282409603651670423947251286016 % 256) ∷ (x / 5192296858534827628530496329220096 % 256) ∷ (x / 1329227995784915872903807060280344576 % 256) ∷ []
-    ≡ leBytes 16 x
-unfolding leBytes
-sixteen-bytes x = simp div-div-eq-div-mul
+abbrev sixteen : ℕ → List ℕ
+sixteen x =
+    (x % 256) ∷ (x / 256 % 256) ∷ (x / 65536 % 256) ∷ (x / 16777216 % 256) ∷ (x / 4294967296 % 256) ∷ (x / 1099511627776 % 256) ∷ (x / 281474976710656 % 256) ∷ (x / 72057594037927936 % 256) ∷ (x / 18446744073709551616 % 256) ∷ (x / 4722366482869645213696 % 256) ∷ (x / 1208925819614629174706176 % 256) ∷ (x / 309485009821345068724781056 % 256) ∷ (x / 79228162514264337593543950336 % 256) ∷ (x / 20282409603651670423947251286016 % 256) ∷ (x / 5192296858534827628530496329220096 % 256) ∷ (x / 1329227995784915872903807060280344576 % 256) ∷ []
 
--- The bytes of a sum modulo 2 ^ 128.
-pub tag-bytes : (x m s : ℕ) → x ≡ m % 2 ^ 128 → leBytes 16 ((x + s) % 2 ^ 128) ≡ leBytes 16 (m + s)
-tag-bytes x m s e =
-    let q : m + s ≡ (x + s) % 2 ^ 128 + 256 ^ 16 * ((m + s) / 2 ^ 128) = omega arith in
-    sym (ap (leBytes 16) q ∙ leBytes-mod 16 ((x + s) % 2 ^ 128) ((m + s) / 2 ^ 128))
+sixteen-is : (x : ℕ) → sixteen x ≡ leBytes 16 x
+unfolding leBytes
+sixteen-is x = simp div-div-eq-div-mul
+
+-- The bytes of a sum modulo 2 ^ 128: x is the accumulator's part of it, and t what was added.
+pub tag-bytes : (tag : List ℕ) (x t m s : ℕ) → tag ≡ sixteen ((x + t) % 2 ^ 128) → x ≡ m % 2 ^ 128 → t ≡ s → tag ≡ leBytes 16 (m + s)
+tag-bytes tag x t m s e f g =
+    let q : m + s ≡ (x + t) % 2 ^ 128 + 256 ^ 16 * ((m + s) / 2 ^ 128) = omega arith in
+    e ∙ sixteen-is ((x + t) % 2 ^ 128) ∙ sym (ap (leBytes 16) q ∙ leBytes-mod 16 ((x + t) % 2 ^ 128) ((m + s) / 2 ^ 128))

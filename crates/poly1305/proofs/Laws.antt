@@ -1,10 +1,10 @@
 -- Laws of `absorbAll`, `padded` and `mac`.
-use mathlib.Core.Path.{_≡_, refl, sym, ap, _∙_}
-use mathlib.Core.List.{List, [], _∷_, _++_}
-use Prim.Native.Nat.{ℕ, zero, suc, _<_, _≤_, _+_, _-_, _*_, _/_, _%_, _^_}
+use mathlib.Core.Path.{_≡_, refl, ap, _∙_}
+use mathlib.Core.List.{List, _++_}
+use Prim.Native.Nat.{ℕ, zero, suc, _≤_, _+_, _*_, _/_, _%_}
 use native.Mathlib.Omega.{arith}
 use native.Mathlib.Nat.{zero-add, suc-add}
-use lib.ListN.{length, take, drop, replicate}
+use lib.ListN.{length, take, drop}
 use Rattle.std.proofs.shelf.Lists.{length-append, length-drop, length-replicate, nil-from-length, take-append-le, drop-append-le, drop-drop}
 use Rattle.bytes.specs.Endian.{le, leBytes}
 use Rattle.bytes.proofs.Laws.{length-leBytes}
@@ -44,14 +44,13 @@ unfolding padded blocks
 length-padded m = simp (length-append, length-replicate) (omega arith)
 
 pub length-mac : (key m : List ℕ) → length (mac key m) ≡ 16
-unfolding mac
 length-mac key m = length-leBytes 16 _
 
 -- The tag of two parts, the first of whole blocks.
 pub mac-join : (key xs ys : List ℕ) → length xs % 16 ≡ 0
     → let r = clamp (le (take 16 key)) in
     mac key (xs ++ ys) ≡ leBytes 16 (absorbAll r (absorbAll r 0 (blocks (length xs)) xs) (blocks (length ys)) ys + le (take 16 (drop 16 key)))
-unfolding mac blocks
+unfolding blocks
 mac-join key xs ys h =
     let e : (length (xs ++ ys) + 15) / 16 ≡ (length xs + 15) / 16 + (length ys + 15) / 16 = simp length-append (omega arith) in
     ap (λ n. leBytes 16 (n + le (take 16 (drop 16 key))))
@@ -71,7 +70,6 @@ pub mac-padded : (key xs ys zs : List ℕ)
     let a = absorbAll r 0 (blocks (length xs)) (padded xs) in
     let b = absorbAll r a (blocks (length ys)) (padded ys) in
     mac key (padded xs ++ (padded ys ++ zs)) ≡ leBytes 16 (absorbAll r b (blocks (length zs)) zs + le (take 16 (drop 16 key)))
-unfolding mac
 mac-padded key xs ys zs =
     ap (λ n. leBytes 16 (n + le (take 16 (drop 16 key))))
     (ap (λ n. absorbAll (clamp (le (take 16 key))) 0 n (padded xs ++ (padded ys ++ zs))) (count xs ys zs)

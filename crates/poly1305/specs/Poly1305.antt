@@ -27,7 +27,7 @@ unfoldable pub blocks : ℕ → ℕ
 blocks n = (n + 15) / 16
 
 -- The 16 bytes of the tag: the accumulator, with the second half of the key added.
-unfoldable pub mac : (key message : List ℕ) → List ℕ
+abbrev pub mac : (key message : List ℕ) → List ℕ
 mac key message =
     leBytes 16 (absorbAll (clamp (le (take 16 key))) 0 (blocks (length message)) message + le (take 16 (drop 16 key)))
 

@@ -1,11 +1,11 @@
 // The one-time authenticator Poly1305 of RFC 8439, section 2.5.
 ghost use mathlib.Core.Path.{_≡_};
 ghost use mathlib.Core.List.{_∷_, _++_};
-ghost use Prim.Native.Nat.{ℕ, _+_, _-_, _*_, _/_, _%_, _^_, _<_, _≤_};
+ghost use Prim.Native.Nat.{_+_, _-_, _*_, _/_, _%_, _^_};
+ghost use lib.Bits.{bitAnd};
 ghost use lib.ListN.{length, take, drop, replicate};
 ghost use Rattle.bytes.specs.Endian.{le, leBytes};
-ghost use Rattle.poly1305.specs.Poly1305.{prime, clamp, absorb, absorbAll, blocks, padded};
-ghost use Rattle.poly1305.specs.Poly1305.{mac as macOf};
+ghost use Rattle.poly1305.specs.Poly1305.{prime, clamp, absorbAll, blocks, padded, mac};
 ghost use Rattle.poly1305.specs.Limbs.{value, Carried};
 ghost use Rattle.poly1305.specs.State.{accumulator, multiplier, added, Idle};
 
@@ -44,10 +44,11 @@ impl Poly1305 {
         ensures multiplier { λ _. ⌜ multiplier (now (self .exit)) ≡ clamp (le (take 16 (now (key .entry)))) ⌝ }
         ensures added { λ _. ⌜ added (now (self .exit)) ≡ le (take 16 (drop 16 (now (key .entry)))) ⌝ }
     {
-        self.acc = Limbs::ZERO;
-        self.r = Limbs::from_words(u64_at(key, 0) & CLAMP_LOW, u64_at(key, 8) & CLAMP_HIGH, 0);
-        self.s0 = u64_at(key, 16);
-        self.s1 = u64_at(key, 24);
+        let (s0, s1) = second_half(key);
+        self.acc = Limbs::zero();
+        self.r = first_half(key);
+        self.s0 = s0;
+        self.s1 = s1;
     }
 
     // A part of any length, its last block filled up with zeros.
@@ -83,16 +84,46 @@ impl Poly1305 {
         ensures tag { λ r. ⌜ r ≡ leBytes 16 (accumulator (now (self .entry)) + added (now (self .entry))) ⌝ }
         ensures wiped { λ _. ⌜ Idle (now (self .exit)) ⌝ }
     {
-        let added = self.s0 as u128 + ((self.s1 as u128) << 64);
-        let tag = self.acc.reduced().wrapping_add(added);
+        let tag = self.tag();
         *self = Poly1305::new();
-        tag.to_le_bytes()
+        tag
     }
+
+    // The accumulator with the second half of the key added.
+    fn tag(&self) -> [u8; 16]
+        ensures { λ r. ⌜ r ≡ leBytes 16 (accumulator (now (self .entry)) + added (now (self .entry))) ⌝ }
+    {
+        let added = self.s0 as u128 + ((self.s1 as u128) << 64);
+        self.acc.reduced().wrapping_add(added).to_le_bytes()
+    }
+}
+
+// The two words of the first half of the key, with the bits cleared that the clamp clears.
+fn clamped(lo: u64, hi: u64) -> (u64, u64)
+    ensures { λ r. ⌜ r .0 ≡ bitAnd lo 0x0ffffffc0fffffff ⌝ ∗ ⌜ r .1 ≡ bitAnd hi 0x0ffffffc0ffffffc ⌝ }
+{
+    (lo & CLAMP_LOW, hi & CLAMP_HIGH)
+}
+
+// The first half of the key, by which the accumulator is multiplied.
+fn first_half(key: &[u8; 32]) -> Limbs
+    ensures carried { λ x. ⌜ Carried x ⌝ }
+    ensures value { λ x. ⌜ value x ≡ clamp (le (take 16 (now (key .entry)))) ⌝ }
+{
+    let (lo, hi) = clamped(u64_at(key, 0), u64_at(key, 8));
+    Limbs::from_words(lo, hi, 0)
+}
+
+// The second half of the key, as two words.
+fn second_half(key: &[u8; 32]) -> (u64, u64)
+    ensures { λ r. ⌜ r .0 + 2 ^ 64 * r .1 ≡ le (take 16 (drop 16 (now (key .entry)))) ⌝ }
+{
+    (u64_at(key, 16), u64_at(key, 24))
 }
 
 // The tag of a message. The state is working memory: whatever it held, it is zeros afterwards.
 pub fn mac(key: &[u8; 32], message: &[u8], state: &mut Poly1305) -> [u8; 16]
-    ensures tag { λ r. ⌜ r ≡ macOf (now (key .entry)) (now (message .entry)) ⌝ }
+    ensures tag { λ r. ⌜ r ≡ mac (now (key .entry)) (now (message .entry)) ⌝ }
     ensures wiped { λ _. ⌜ Idle (now (state .exit)) ⌝ }
 {
     state.begin(key);

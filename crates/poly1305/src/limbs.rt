@@ -1,6 +1,6 @@
 // Arithmetic modulo 2^130 - 5, on numbers of five limbs.
 ghost use mathlib.Core.Path.{_≡_};
-ghost use Prim.Native.Nat.{ℕ, _+_, _*_, _%_, _^_, _<_, _≤_};
+ghost use Prim.Native.Nat.{_+_, _*_, _%_, _^_, _<_, _≤_};
 ghost use Rattle.poly1305.specs.Poly1305.{prime};
 ghost use Rattle.poly1305.specs.Limbs.{number, value, Carried, Summed};
 
@@ -27,6 +27,13 @@ impl Limbs {
         l4: 0,
     };
 
+    pub(crate) fn zero() -> Limbs
+        ensures carried { λ x. ⌜ Carried x ⌝ }
+        ensures value { λ x. ⌜ value x % prime ≡ 0 ⌝ }
+    {
+        Limbs::ZERO
+    }
+
     // The number of two words and of `top`, which stands in the highest limb.
     pub(crate) fn from_words(lo: u64, hi: u64, top: u64) -> Limbs
         requires { ⌜ top ≤ 2 ^ 24 ⌝ }
@@ -35,7 +42,7 @@ impl Limbs {
     {
         Limbs {
             l0: lo & LIMB_MASK,
-            l1: (lo >> 26) & LIMB_MASK,
+            l1: (lo >> LIMB_BITS) & LIMB_MASK,
             l2: ((hi << 12) | (lo >> 52)) & LIMB_MASK,
             l3: (hi >> 14) & LIMB_MASK,
             l4: (hi >> 40) + top,
@@ -110,7 +117,7 @@ impl Limbs {
         let over = (self.l4 + c3) >> LIMB_BITS;
         let low = self.l0 as u128
             + 5 * over as u128
-            + ((self.l1 as u128) << 26)
+            + ((self.l1 as u128) << LIMB_BITS)
             + ((self.l2 as u128) << 52)
             + ((self.l3 as u128) << 78);
         low.wrapping_add((self.l4 as u128) << 104)

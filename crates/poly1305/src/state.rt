@@ -1,7 +1,8 @@
 ghost use Rattle.poly1305.specs.Limbs.{Carried};
 use crate::limbs::Limbs;
 
-// A Poly1305 under way: the accumulator, the clamped half of the key, and the half that is added last.
+// A Poly1305 under way: the accumulator, the clamped half of the key, and the half that is added last. The caller holds it in
+// its work space; while no message is under way it is zeros.
 #[derive(Drop)]
 pub struct Poly1305 {
     pub(crate) acc: Limbs,

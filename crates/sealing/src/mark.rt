@@ -49,6 +49,16 @@ impl Workspace {
     {
         self.stream.wipe();
         self.mark = Poly1305::new();
+        self.wipe_once();
+    }
+
+    // The one-time key and the block that it came from, cleared to zeros.
+    fn wipe_once(&mut self)
+        ensures block { λ _. ⌜ now (self .exit) .block ≡ replicate 64 0 ⌝ }
+        ensures once { λ _. ⌜ now (self .exit) .once ≡ replicate 32 0 ⌝ }
+        ensures stream { λ _. ⌜ now (self .exit) .stream ≡ now (self .entry) .stream ⌝ }
+        ensures mark { λ _. ⌜ now (self .exit) .mark ≡ now (self .entry) .mark ⌝ }
+    {
         self.block = [0; 64];
         self.once = [0; 32];
     }
@@ -73,8 +83,7 @@ impl Workspace {
     {
         self.make_once(key, nonce);
         self.mark.begin(&self.once);
-        self.block = [0; 64];
-        self.once = [0; 32];
+        self.wipe_once();
     }
 
     // What the mark is made of.

@@ -1,8 +1,8 @@
-use mathlib.Core.Path.{_≡_, refl, sym, ap, _∙_}
-use mathlib.Core.List.{_++_}
+use mathlib.Core.Path.{_≡_, ap, _∙_}
 use Prim.Native.Nat.{_-_, _*_, _/_, _%_}
+use borrow.Author.Needs.{needs}
 use native.Mathlib.Omega.{arith}
-use lib.ListN.{length, take, drop, set, replicate}
+use lib.ListN.{length, drop}
 use Rattle.std.proofs.shelf.Lists.{take-rest, length-drop}
 use Rattle.poly1305.proofs.Blocks.{filled}
 use Rattle.poly1305.proofs.last_block.Needs as need
@@ -14,7 +14,5 @@ returns c =
     let d : length m - k ≡ 16 * (length m / 16) = omega arith in
     let e : c .copy-from-slice .last .self ≡ drop (16 * (length m / 16)) m
     = c .copy-from-slice .ensures .after ∙ take-rest m (length m - k) ∙ ap (λ i. drop i m) d in
-    let z : k - 0 ≡ k = omega arith in
-    ap (λ x. set (x ++ drop (k - 0) (replicate 16 0)) k (c .args .end)) e
-    ∙ ap (λ j. set (drop (16 * (length m / 16)) m ++ drop j (replicate 16 0)) k (c .args .end)) z
-    ∙ filled (drop (16 * (length m / 16)) m) k (c .args .end) (simp length-drop (omega arith)) (omega arith)
+    let l : length (drop (16 * (length m / 16)) m) ≡ k = simp length-drop (omega arith) in
+    search (needs, filled)

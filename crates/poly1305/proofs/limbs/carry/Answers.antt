@@ -1,3 +1,4 @@
+use borrow.Author.Needs.{needs}
 use native.Mathlib.Omega.{arith}
 use Rattle.poly1305.proofs.limbs.carry.Needs as need
 use Rattle.poly1305.proofs.Field.{low26, carry-keeps}
@@ -7,5 +8,5 @@ returns c =
     record {
       carried =
           (simp low26 (omega arith), simp low26 (omega arith), simp low26 (omega arith), simp low26 (omega arith), simp low26 (omega arith));
-      value = carry-keeps (c .args .d0) (c .args .d1) (c .args .d2) (c .args .d3) (c .args .d4);
+      value = search (needs, carry-keeps);
     }

@@ -1,4 +1,3 @@
-use mathlib.Core.Path.{_≡_}
 use native.Mathlib.Omega.{arith}
 use Rattle.poly1305.proofs.limbs.Limbs.from_words.Needs as need
 use Rattle.poly1305.proofs.Field.{low26, middle}

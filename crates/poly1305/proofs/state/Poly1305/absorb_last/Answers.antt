@@ -1,4 +1,4 @@
-use mathlib.Core.Path.{_≡_, refl, sym, ap, _∙_}
+use mathlib.Core.Path.{refl, ap, _∙_}
 use native.Mathlib.Omega.{arith}
 use Prim.Native.Nat.{_%_}
 use Rattle.poly1305.specs.Poly1305.{prime, absorbAll}
@@ -17,9 +17,9 @@ returns c =
           elim (c .if-part-ne0 .came) [
             | then-part-ne0 w ↦
                 ap (λ x. value x % prime) (w .acc-is)
-                ∙ last-short (multiplier s) (accumulator s) (value (c .absorb-whole-acc .result)) (value (w .absorb-acc .result))
-                (w .u64-at .result) (w .u64-at-then-part-ne0 .result) m (w .last-block-block .result) (omega arith)
-                (w .last-block-block .ensures) (w .u64-at .ensures) (w .u64-at-then-part-ne0 .ensures)
+                ∙ last-short (multiplier s) (accumulator s) (value (c .absorb-whole-acc .result)) (value (w .absorb-acc .result)) _
+                (w .u64-at .result) (w .u64-at-then-part-ne0 .result) _ m (w .last-block-block .result) (omega arith)
+                (omega arith) (w .last-block-block .ensures) (w .u64-at .ensures) (w .u64-at-then-part-ne0 .ensures) (omega arith)
                 (c .absorb-whole-acc .ensures .value) (w .absorb-acc .ensures .value)
             | else-part-ne0 w ↦
                 ap (λ x. value x % prime) (w .acc-is) ∙ c .absorb-whole-acc .ensures .value

@@ -1,4 +1,4 @@
-use mathlib.Core.Path.{_≡_, refl, sym, ap, _∙_}
+use mathlib.Core.Path.{refl, sym, ap, _∙_}
 use native.Mathlib.Omega.{arith}
 use lib.ListN.{length}
 use Prim.Native.Nat.{_%_}
@@ -18,9 +18,9 @@ returns c =
           elim (c .if-part-ne0 .came) [
             | then-part-ne0 w ↦
                 ap (λ x. value x % prime) (w .acc-is)
-                ∙ last-padded (multiplier s) (accumulator s) (value (c .absorb-whole-acc .result)) (value (w .absorb-acc .result))
-                (w .u64-at .result) (w .u64-at-then-part-ne0 .result) m (w .last-block-block .result) (omega arith)
-                (w .last-block-block .ensures) (w .u64-at .ensures) (w .u64-at-then-part-ne0 .ensures)
+                ∙ last-padded (multiplier s) (accumulator s) (value (c .absorb-whole-acc .result)) (value (w .absorb-acc .result)) _
+                (w .u64-at .result) (w .u64-at-then-part-ne0 .result) _ m (w .last-block-block .result) (omega arith)
+                (omega arith) (w .last-block-block .ensures) (w .u64-at .ensures) (w .u64-at-then-part-ne0 .ensures) (omega arith)
                 (c .absorb-whole-acc .ensures .value) (w .absorb-acc .ensures .value)
             | else-part-ne0 w ↦
                 ap (λ x. value x % prime) (w .acc-is) ∙ c .absorb-whole-acc .ensures .value
