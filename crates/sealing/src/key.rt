@@ -1,10 +1,11 @@
 // Keys: 32 secret bytes, moved and wiped, never copied.
 ghost use mathlib.Core.Path.{_≡_};
-ghost use lib.ListN.{replicate};
+ghost use lib.ListN.{length, replicate};
 
 // A key can't be copied, and it can be let go only where it is proved to be wiped.
 pub struct Key {
     bytes: [u8; 32],
+    ghost long: { length bytes ≡ 32 },
 }
 
 impl Drop for Key {
