@@ -52,7 +52,7 @@ odd-beside : (p d : ℕ) → toEven d p ≡ false → 2 * (p / 2 ^ suc d) + 0 �
 odd-beside p d e = let z = eqb-false (p / 2 ^ d % 2) 0 e in rw (half p d) (omega arith)
 
 -- Turns below h depend on the keys beside the way below h only.
-climbed-same : {K C : Type 0} (next p : ℕ) (w : Option C) (keys : ℕ → K) (one other : ℕ → Option K) (h : ℕ) → ((i : ℕ) → i < h → one i ≡ other i)
+pub climbed-same : {K C : Type 0} (next p : ℕ) (w : Option C) (keys : ℕ → K) (one other : ℕ → Option K) (h : ℕ) → ((i : ℕ) → i < h → one i ≡ other i)
     → climbed next p w keys one h ≡ climbed next p w keys other h
 unfolding climbed
 climbed-same next p w keys one other zero f = refl

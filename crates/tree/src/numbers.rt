@@ -69,7 +69,7 @@ pub fn places(levels: u32) -> u32
 
 // The node of a place; none where there is no such place, or no tree of so many levels.
 pub fn place_node(levels: u32, place: u32) -> Option<NodeId>
-    ensures { λ r. ⌜ Cases r ((levels ≤ 20 → place < 2 ^ levels → ⊥)) (λ n. (place < 2 ^ levels) × (n .number ≡ 2 ^ levels + place)) ⌝ }
+    ensures { λ r. ⌜ Cases r ((levels ≤ 20 → place < 2 ^ levels → ⊥)) (λ n. (levels ≤ 20) × (place < 2 ^ levels) × (n .number ≡ 2 ^ levels + place)) ⌝ }
 {
     if levels > MOST_LEVELS || place >= places(levels) {
         return None;

@@ -1,0 +1,4 @@
+pub mod Coded
+pub mod Nodes
+pub mod Turns
+pub mod Outcome
