@@ -32,9 +32,3 @@ pub returns-in-Break-push-both : need.returns-in-Break-push-both
 returns-in-Break-push-both g c =
     extends-failed (c .from-residual .result) _ _ _ (c .from-residual .ensures .0)
     (kept-then (vec-items (c .args .out .now)) _ (vec-items (c .loop-h .out)) _ (c .loop-h .inv .1) (c .in-Break-push-both .ensures tt))
-
-pub returns : need.returns
-returns g c =
-    let e : c .loop-h .h ≡ c .args .levels = omega arith in
-    c .loop-h .inv .1
-    ∙ ap (λ (h : ℕ). vec-items (c .args .out .now) ++ turnsBytes (g .S·Sealing .sealed) (c .args .start .number) (c .args .first) (c .args .last) (c .args .keys .now) (c .args .beside .now) h) e
