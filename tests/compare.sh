@@ -1,5 +1,5 @@
 #!/usr/bin/env bash
-# Compares the proved program with the reference program and with the values of RFC 8439.
+# Compares the proved program with the reference program, with the values of RFC 8439, and with tables of right answers.
 # REHEARSE names the program under test; by default it is the one that `rt ci` leaves.
 set -euo pipefail
 cd "$(dirname "${BASH_SOURCE[0]}")/.."
@@ -8,6 +8,7 @@ rehearse=$(realpath -m "${REHEARSE:-target/bin/rehearse}")
 reference=reference/target/release/reference
 seed=8439
 count=12000
+changes_count=4000
 
 if [ ! -x "$rehearse" ]; then
     echo "compare: there is no program $rehearse" >&2
@@ -79,14 +80,21 @@ quietly cargo build --release --offline --manifest-path reference/Cargo.toml
 quietly cargo test --release --offline --manifest-path reference/Cargo.toml
 echo "reference's own tests: $(sed -n 's/^test result: ok\. \([0-9]* passed\).*/\1/p' "$work/log" | head -n 1)"
 
-for table in rfc8439 malformed; do
+for table in rfc8439 malformed changes; do
     answers_of "rehearse, $table" "tests/$table.lines" "$work/rehearse" "$rehearse"
     agree "rehearse, $table" "tests/$table.lines" "$work/rehearse" "tests/$table.expected"
     answers_of "reference, $table" "tests/$table.lines" "$work/reference" "$reference" lines
     agree "reference, $table" "tests/$table.lines" "$work/reference" "tests/$table.expected"
 done
 
-"$reference" generate "$seed" "$count" >"$work/lines"
-answers_of "reference, generated" "$work/lines" "$work/reference" "$reference" lines
-answers_of "rehearse, generated" "$work/lines" "$work/rehearse" "$rehearse"
-agree "rehearse and reference, $count generated lines" "$work/lines" "$work/rehearse" "$work/reference"
+# compare_generated NAME COMMAND COUNT: both programs answer the same to so many generated lines.
+compare_generated() {
+    local name=$1 command=$2 lines=$3
+    "$reference" "$command" "$seed" "$lines" >"$work/lines"
+    answers_of "reference, $name" "$work/lines" "$work/reference" "$reference" lines
+    answers_of "rehearse, $name" "$work/lines" "$work/rehearse" "$rehearse"
+    agree "rehearse and reference, $lines $name lines" "$work/lines" "$work/rehearse" "$work/reference"
+}
+
+compare_generated "generated" generate "$count"
+compare_generated "generated change" generate-changes "$changes_count"

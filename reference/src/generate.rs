@@ -6,73 +6,13 @@ use crate::chacha20::{BLOCK_LEN, Key, Nonce};
 use crate::hex;
 use crate::lines::Field;
 use crate::poly1305::TAG_LEN;
+use crate::random::Random;
+use crate::spelling::{self, BAD_NUMBERS, next_number};
 
 /// The longest content.
 const LONGEST: usize = 4200;
 /// The longest marked bytes; `mark` lines have messages of every length up to this one.
 const LONGEST_MARKED: usize = 80;
-
-/// The splitmix64 generator.
-struct Random(u64);
-
-impl Random {
-    fn next(&mut self) -> u64 {
-        self.0 = self.0.wrapping_add(0x9e37_79b9_7f4a_7c15);
-        let mut z = self.0;
-        z = (z ^ (z >> 30)).wrapping_mul(0xbf58_476d_1ce4_e5b9);
-        z = (z ^ (z >> 27)).wrapping_mul(0x94d0_49bb_1331_11eb);
-        z ^ (z >> 31)
-    }
-
-    /// A number below `limit`.
-    fn below(&mut self, limit: usize) -> usize {
-        (self.next() % limit as u64) as usize
-    }
-
-    /// True once in so many times.
-    fn once_in(&mut self, times: usize) -> bool {
-        self.below(times) == 0
-    }
-
-    fn pick<T: Copy>(&mut self, choices: &[T]) -> T {
-        choices[self.below(choices.len())]
-    }
-
-    fn byte(&mut self) -> u8 {
-        (self.next() >> 56) as u8
-    }
-
-    fn bytes(&mut self, len: usize) -> Vec<u8> {
-        (0..len).map(|_| self.byte()).collect()
-    }
-
-    fn array<const N: usize>(&mut self) -> [u8; N] {
-        std::array::from_fn(|_| self.byte())
-    }
-
-    /// Mostly random bytes, sometimes all zero or all ones.
-    fn key_like<const N: usize>(&mut self) -> [u8; N] {
-        match self.below(16) {
-            0 => [0x00; N],
-            1 => [0xff; N],
-            _ => self.array(),
-        }
-    }
-
-    /// Mostly a short length, now and then one up to the longest.
-    fn length(&mut self) -> usize {
-        match self.below(16) {
-            0 => self.below(LONGEST + 1),
-            1..=3 => self.below(600),
-            _ => self.below(130),
-        }
-    }
-
-    fn flip_bit(&mut self, bytes: &mut [u8]) {
-        let place = self.below(8 * bytes.len());
-        bytes[place / 8] ^= 1 << (place % 8);
-    }
-}
 
 /// What a line is.
 #[derive(Clone, Copy, Debug, PartialEq, Eq)]
@@ -207,7 +147,8 @@ fn fixed_length(field: Field) -> Option<usize> {
     match field {
         Field::Key | Field::Once => Some(32),
         Field::Nonce => Some(12),
-        Field::Marked | Field::Content | Field::Sealed | Field::Message | Field::Counter => None,
+        Field::Marked | Field::Content | Field::Sealed | Field::Message | Field::Bytes => None,
+        Field::Counter | Field::Places | Field::Place => None,
     }
 }
 
@@ -225,20 +166,6 @@ const UNKNOWN: [&[u8]; 12] = [
     b"marking",
     b"\xff\xfe",
     b"seal\xc3",
-];
-
-/// Counters that are none.
-const BAD_COUNTERS: [&str; 10] = [
-    "4294967296",
-    "4294967300",
-    "42949672950",
-    "18446744073709551616",
-    "99999999999999999999999999",
-    "-",
-    "-1",
-    "+1",
-    "12a",
-    "0x10",
 ];
 
 /// What is wrong with a malformed line.
@@ -302,7 +229,7 @@ impl Fault {
     fn of_field(shape: usize, field: usize, name: Field) -> Vec<Fault> {
         if name == Field::Counter {
             // `block` and `stream` stand beside each other, and share the counters between them.
-            let counters = (shape % 2..BAD_COUNTERS.len()).step_by(2);
+            let counters = (shape % 2..BAD_NUMBERS.len()).step_by(2);
             return counters
                 .map(|counter| Fault::BadCounter {
                     shape,
@@ -335,13 +262,6 @@ struct Made {
     passed_over: usize,
 }
 
-/// Adds one, and answers what it was before.
-fn next_number(made: &mut usize) -> usize {
-    let number = *made;
-    *made += 1;
-    number
-}
-
 /// The lines, without their line feeds.
 pub struct Generator {
     random: Random,
@@ -354,7 +274,7 @@ pub struct Generator {
 impl Generator {
     pub fn new(seed: u64) -> Generator {
         Generator {
-            random: Random(seed),
+            random: Random::new(seed),
             lines: 0,
             made: Made::default(),
             edges: edge_lengths(),
@@ -367,10 +287,10 @@ impl Generator {
         let number = next_number(&mut self.made.seals);
         let len = match number % 4 {
             0 => self.edge(number / 4),
-            _ => self.random.length(),
+            _ => self.length(),
         };
-        let key = self.random.key_like::<32>();
-        let nonce = self.random.key_like::<12>();
+        let key = key_like::<32>(&mut self.random);
+        let nonce = key_like::<12>(&mut self.random);
         let marked = self.random.bytes(number % (LONGEST_MARKED + 1));
         let content = self.content(len);
         self.join(&[
@@ -387,10 +307,10 @@ impl Generator {
         let number = next_number(&mut self.made.opens);
         let len = match number % 4 {
             0 | 1 => self.edge(number / 4),
-            _ => self.random.length(),
+            _ => self.length(),
         };
-        let key = Key(self.random.key_like());
-        let nonce = Nonce(self.random.key_like());
+        let key = Key(key_like(&mut self.random));
+        let nonce = Nonce(key_like(&mut self.random));
         let marked_len = self.random.below(LONGEST_MARKED + 1);
         let marked = self.random.bytes(marked_len);
         let content = self.content(len);
@@ -411,9 +331,9 @@ impl Generator {
     fn block_line(&mut self) -> Vec<u8> {
         let words = [
             "block".to_string(),
-            hex::encode(&self.random.key_like::<32>()),
+            hex::encode(&key_like::<32>(&mut self.random)),
             self.counter().to_string(),
-            hex::encode(&self.random.key_like::<12>()),
+            hex::encode(&key_like::<12>(&mut self.random)),
         ];
         self.join(&words)
     }
@@ -434,13 +354,13 @@ impl Generator {
                 self.counter(),
                 around(self.random.below(12), self.random.below(3)),
             ),
-            _ => (self.counter(), self.random.length()),
+            _ => (self.counter(), self.length()),
         };
         let words = [
             "stream".to_string(),
-            hex::encode(&self.random.key_like::<32>()),
+            hex::encode(&key_like::<32>(&mut self.random)),
             counter.to_string(),
-            hex::encode(&self.random.key_like::<12>()),
+            hex::encode(&key_like::<12>(&mut self.random)),
             hex::encode(&self.content(len)),
         ];
         self.join(&words)
@@ -449,8 +369,8 @@ impl Generator {
     fn once_line(&mut self) -> Vec<u8> {
         let words = [
             "once".to_string(),
-            hex::encode(&self.random.key_like::<32>()),
-            hex::encode(&self.random.key_like::<12>()),
+            hex::encode(&key_like::<32>(&mut self.random)),
+            hex::encode(&key_like::<12>(&mut self.random)),
         ];
         self.join(&words)
     }
@@ -488,7 +408,7 @@ impl Generator {
     fn first_half(&mut self) -> [u8; 16] {
         match self.random.below(3) {
             0 => [0xff; 16],
-            _ => self.random.key_like(),
+            _ => key_like(&mut self.random),
         }
     }
 
@@ -501,12 +421,7 @@ impl Generator {
             Fault::SeveralFields => {
                 let shape = self.random.below(SHAPES.len());
                 let mut words = self.right_words(shape);
-                for word in &mut words[1..] {
-                    *word = self
-                        .random
-                        .pick(&["0", "0g", "-0", "--", "00zz"])
-                        .to_string();
-                }
+                spelling::spoil_fields(&mut words, &mut self.random);
                 words
             }
             Fault::FieldMissing { shape } => {
@@ -517,27 +432,15 @@ impl Generator {
             Fault::NoFields { shape } => vec![SHAPES[shape].command.to_string()],
             Fault::FieldTooMany { shape } => {
                 let mut words = self.right_words(shape);
-                words.push(self.random.pick(&["-", "00", "#", "zz"]).to_string());
+                words.push(spelling::extra_field(&mut self.random));
                 words
             }
-            Fault::NotHexDigit { shape, field } => self.with_field(shape, field, |word, random| {
-                let mut letters: Vec<char> = if word == "-" {
-                    vec!['0'; 2]
-                } else {
-                    word.chars().collect()
-                };
-                let place = random.below(letters.len());
-                letters[place] = random.pick(&['g', 'G', '/', ':', '@', '`', '-', 'x', 'é']);
-                letters.into_iter().collect()
-            }),
-            Fault::OddLength { shape, field } => self.with_field(shape, field, |word, random| {
-                let digit = random.pick(&['0', '7', 'a', 'F']);
-                if word == "-" {
-                    digit.to_string()
-                } else {
-                    format!("{word}{digit}")
-                }
-            }),
+            Fault::NotHexDigit { shape, field } => {
+                self.with_field(shape, field, spelling::with_wrong_digit)
+            }
+            Fault::OddLength { shape, field } => {
+                self.with_field(shape, field, spelling::with_odd_length)
+            }
             Fault::Empty { shape, field } => self.with_field(shape, field, |_, _| "-".to_string()),
             Fault::Shorter { shape, field } => {
                 self.with_field(shape, field, |word, _| word[2..].to_string())
@@ -549,7 +452,7 @@ impl Generator {
                 shape,
                 field,
                 counter,
-            } => self.with_field(shape, field, |_, _| BAD_COUNTERS[counter].to_string()),
+            } => self.with_field(shape, field, |_, _| BAD_NUMBERS[counter].to_string()),
         };
         self.join(&words)
     }
@@ -557,12 +460,8 @@ impl Generator {
     /// An unknown command before the fields of a known one.
     fn unknown_line(&mut self) -> Vec<u8> {
         let shape = self.random.below(SHAPES.len());
-        let mut line = self.random.pick(&UNKNOWN).to_vec();
-        for word in &self.right_words(shape)[1..] {
-            line.push(b' ');
-            line.extend(word.bytes());
-        }
-        line
+        let command = self.random.pick(&UNKNOWN);
+        spelling::line_with_command(command, &self.right_words(shape))
     }
 
     /// The words of a command, with one field changed.
@@ -595,20 +494,17 @@ impl Generator {
         words
     }
 
-    /// Blank lines and comments in turn.
     fn passed_over_line(&mut self) -> Vec<u8> {
-        const LINES: [&str; 8] = [
-            "",
-            " ",
-            "\t",
-            " \t  ",
-            "\r",
-            "# a comment",
-            " \t# seal - - - -",
-            "#seal",
-        ];
-        let number = next_number(&mut self.made.passed_over);
-        LINES[number % LINES.len()].as_bytes().to_vec()
+        spelling::passed_over(next_number(&mut self.made.passed_over))
+    }
+
+    /// Mostly a short length, now and then one up to the longest.
+    fn length(&mut self) -> usize {
+        match self.random.below(16) {
+            0 => self.random.below(LONGEST + 1),
+            1..=3 => self.random.below(600),
+            _ => self.random.below(130),
+        }
     }
 
     /// The edge lengths in turn.
@@ -621,7 +517,7 @@ impl Generator {
             0 => 0,
             1 => 1,
             2 => u32::MAX - 100,
-            _ => (self.random.next() >> 32) as u32,
+            _ => self.random.word(),
         }
     }
 
@@ -643,28 +539,8 @@ impl Generator {
         }
     }
 
-    /// The words with single spaces between them; one line in twenty is spelled in another way that
-    /// means the same.
     fn join(&mut self, words: &[String]) -> Vec<u8> {
-        if !self.random.once_in(20) {
-            return words.join(" ").into_bytes();
-        }
-        let blank = self.random.pick(&["  ", "\t", " \t ", " "]);
-        let before = self.random.pick(&["", " ", "\t"]);
-        let after = self.random.pick(&["", " ", "\t", "\r", " \r"]);
-        let upper = self.random.once_in(2);
-        let (command, fields) = words.split_first().expect("a command");
-        let mut line = format!("{before}{command}");
-        for field in fields {
-            line.push_str(blank);
-            line.push_str(&if upper {
-                field.to_ascii_uppercase()
-            } else {
-                field.clone()
-            });
-        }
-        line.push_str(after);
-        line.into_bytes()
+        spelling::line(words, &mut self.random)
     }
 }
 
@@ -683,6 +559,15 @@ impl Iterator for Generator {
             Kind::Malformed => self.malformed_line(),
             Kind::PassedOver => self.passed_over_line(),
         })
+    }
+}
+
+/// Mostly random bytes, sometimes all zero or all ones.
+fn key_like<const N: usize>(random: &mut Random) -> [u8; N] {
+    match random.below(16) {
+        0 => [0x00; N],
+        1 => [0xff; N],
+        _ => random.array(),
     }
 }
 
@@ -712,7 +597,7 @@ fn near_modulus(random: &mut Random) -> ([u8; 16], Vec<u8>) {
 #[cfg(test)]
 mod tests {
     use super::*;
-    use crate::lines;
+    use crate::lines::Session;
     use std::collections::{BTreeMap, BTreeSet};
 
     const COUNT: usize = 10_000;
@@ -754,7 +639,7 @@ mod tests {
                     seals.insert(byte_len(&words[4]));
                 }
                 Some("open") if words.len() == 5 => {
-                    let answer = lines::answer(&line).expect("an answer");
+                    let answer = Session::default().answer(&line).expect("an answer");
                     if hex::decode(answer.as_bytes()).is_some() {
                         right_opens.insert(byte_len(&answer));
                     }
@@ -776,7 +661,7 @@ mod tests {
         let mut answers: BTreeMap<String, usize> = BTreeMap::new();
         let mut opened = 0;
         for line in &lines {
-            let answer = match lines::answer(line) {
+            let answer = match Session::default().answer(line) {
                 None => "none".to_string(),
                 Some(answer) if hex::decode(answer.as_bytes()).is_some() => "bytes".to_string(),
                 Some(answer) => answer,
@@ -820,7 +705,7 @@ mod tests {
         assert!(generator.faults.len() <= COUNT / 100);
         for _ in 0..20 * generator.faults.len() {
             let line = generator.malformed_line();
-            let answer = lines::answer(&line).expect("an answer");
+            let answer = Session::default().answer(&line).expect("an answer");
             assert!(answer.starts_with("malformed: "), "{answer}");
         }
     }

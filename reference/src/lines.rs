@@ -4,8 +4,11 @@ use std::fmt;
 
 use crate::aead::{self, DoesNotOpen};
 use crate::chacha20::{self, Key, Nonce, TooLong};
+use crate::change::{self, Change, Refused};
 use crate::hex;
 use crate::poly1305::{self, OneTimeKey, Tag};
+use crate::records::{self, Decoded};
+use crate::tree::{Places, Tree};
 
 /// A field of a command, under the name that a complaint gives it.
 #[derive(Clone, Copy, Debug, PartialEq, Eq)]
@@ -18,6 +21,9 @@ pub enum Field {
     Counter,
     Once,
     Message,
+    Places,
+    Place,
+    Bytes,
 }
 
 impl fmt::Display for Field {
@@ -31,6 +37,9 @@ impl fmt::Display for Field {
             Field::Counter => "COUNTER",
             Field::Once => "ONCE",
             Field::Message => "MESSAGE",
+            Field::Places => "PLACES",
+            Field::Place => "PLACE",
+            Field::Bytes => "BYTES",
         })
     }
 }
@@ -42,7 +51,8 @@ enum Malformed {
     FieldCount { expected: usize },
     NotHex(Field),
     Length { field: Field, expected: usize },
-    NotACounter(Field),
+    NotANumber(Field),
+    NotPlaces(Field),
 }
 
 impl fmt::Display for Malformed {
@@ -53,9 +63,10 @@ impl fmt::Display for Malformed {
             Malformed::FieldCount { expected } => write!(f, "expected {expected} fields"),
             Malformed::NotHex(field) => write!(f, "{field} is not hex"),
             Malformed::Length { field, expected } => write!(f, "{field} must be {expected} bytes"),
-            Malformed::NotACounter(field) => {
+            Malformed::NotANumber(field) => {
                 write!(f, "{field} must be a number up to {}", u32::MAX)
             }
+            Malformed::NotPlaces(field) => write!(f, "{field} must be 2, 4 or 8"),
         }
     }
 }
@@ -65,6 +76,8 @@ impl fmt::Display for Malformed {
 enum Refusal {
     DoesNotOpen,
     TooLong,
+    NoTree,
+    NoSuchPlaceOrContent,
 }
 
 impl fmt::Display for Refusal {
@@ -72,6 +85,10 @@ impl fmt::Display for Refusal {
         f.write_str(match self {
             Refusal::DoesNotOpen => "refused 3: does not open",
             Refusal::TooLong => "refused: too long",
+            Refusal::NoTree => "refused: no tree",
+            Refusal::NoSuchPlaceOrContent => {
+                "refused 1: no such place, or a content of 0 or more than 4096 bytes"
+            }
         })
     }
 }
@@ -85,6 +102,12 @@ impl From<DoesNotOpen> for Refusal {
 impl From<TooLong> for Refusal {
     fn from(TooLong: TooLong) -> Refusal {
         Refusal::TooLong
+    }
+}
+
+impl From<Refused> for Refusal {
+    fn from(Refused: Refused) -> Refusal {
+        Refusal::NoSuchPlaceOrContent
     }
 }
 
@@ -120,6 +143,21 @@ enum Command {
     Mark {
         once: OneTimeKey,
         message: Vec<u8>,
+    },
+    Tree {
+        places: Places,
+    },
+    Put {
+        place: u32,
+        content: Vec<u8>,
+    },
+    Out {
+        place: u32,
+    },
+    Bytes,
+    Decode {
+        places: Places,
+        bytes: Vec<u8>,
     },
 }
 
@@ -176,44 +214,37 @@ impl Command {
                     message: bytes(Field::Message, message)?,
                 })
             }
+            b"tree" => {
+                let [places] = fields(rest)?;
+                Ok(Command::Tree {
+                    places: count_of_places(Field::Places, places)?,
+                })
+            }
+            b"put" => {
+                let [place, content] = fields(rest)?;
+                Ok(Command::Put {
+                    place: number(Field::Place, place)?,
+                    content: bytes(Field::Content, content)?,
+                })
+            }
+            b"out" => {
+                let [place] = fields(rest)?;
+                Ok(Command::Out {
+                    place: number(Field::Place, place)?,
+                })
+            }
+            b"bytes" => {
+                let [] = fields(rest)?;
+                Ok(Command::Bytes)
+            }
+            b"decode" => {
+                let [places, record] = fields(rest)?;
+                Ok(Command::Decode {
+                    places: count_of_places(Field::Places, places)?,
+                    bytes: bytes(Field::Bytes, record)?,
+                })
+            }
             _ => Err(Malformed::UnknownCommand),
-        }
-    }
-
-    /// Carries the command out.
-    fn run(&self) -> Result<Vec<u8>, Refusal> {
-        match self {
-            Command::Seal {
-                key,
-                nonce,
-                marked,
-                content,
-            } => Ok(aead::seal(key, nonce, marked, content)?),
-            Command::Open {
-                key,
-                nonce,
-                marked,
-                sealed,
-            } => Ok(aead::open(key, nonce, marked, sealed)?),
-            Command::Block {
-                key,
-                counter,
-                nonce,
-            } => Ok(chacha20::block(key, *counter, nonce).to_vec()),
-            Command::Stream {
-                key,
-                counter,
-                nonce,
-                content,
-            } => Ok(chacha20::encrypt(key, *counter, nonce, content)?),
-            Command::Once { key, nonce } => {
-                let OneTimeKey(once) = aead::one_time_key(key, nonce);
-                Ok(once.to_vec())
-            }
-            Command::Mark { once, message } => {
-                let Tag(tag) = poly1305::tag(once, message);
-                Ok(tag.to_vec())
-            }
         }
     }
 }
@@ -243,14 +274,22 @@ fn number(field: Field, word: &[u8]) -> Result<u32, Malformed> {
     let mut number: u32 = 0;
     for letter in word {
         if !letter.is_ascii_digit() {
-            return Err(Malformed::NotACounter(field));
+            return Err(Malformed::NotANumber(field));
         }
         number = number
             .checked_mul(10)
             .and_then(|tens| tens.checked_add(u32::from(letter - b'0')))
-            .ok_or(Malformed::NotACounter(field))?;
+            .ok_or(Malformed::NotANumber(field))?;
     }
     Ok(number)
+}
+
+/// A number as above that is 2, 4 or 8.
+fn count_of_places(field: Field, word: &[u8]) -> Result<Places, Malformed> {
+    let count = number(field, word).ok();
+    count
+        .and_then(Places::from_count)
+        .ok_or(Malformed::NotPlaces(field))
 }
 
 /// The words of a line without its line feed: what stands between spaces and tabs. A carriage return
@@ -261,28 +300,141 @@ fn words(line: &[u8]) -> Vec<&[u8]> {
     between.filter(|word| !word.is_empty()).collect()
 }
 
-/// The answer to a line without its line feed; none to a blank line or a comment.
-pub fn answer(line: &[u8]) -> Option<String> {
-    let words = words(line);
-    let (first, rest) = words.split_first()?;
-    if first.starts_with(b"#") {
-        return None;
+/// What a command that was carried out has to say.
+enum Answer {
+    Done,
+    Bytes(Vec<u8>),
+    Changed(Change),
+    Decoded(Decoded),
+}
+
+impl fmt::Display for Answer {
+    fn fmt(&self, f: &mut fmt::Formatter) -> fmt::Result {
+        match self {
+            Answer::Done => f.write_str("ok"),
+            Answer::Bytes(bytes) => f.write_str(&hex::encode(bytes)),
+            Answer::Changed(change) => change.fmt(f),
+            Answer::Decoded(decoded) => decoded.fmt(f),
+        }
     }
-    Some(match Command::parse(first, rest) {
-        Ok(command) => match command.run() {
-            Ok(bytes) => hex::encode(&bytes),
-            Err(refusal) => refusal.to_string(),
-        },
-        Err(malformed) => malformed.to_string(),
-    })
+}
+
+/// What lasts from line to line.
+#[derive(Default)]
+pub struct Session {
+    /// The tree of keys; none before the first `tree`.
+    tree: Option<Tree>,
+    /// The bytes of the last change's records; empty where there was no change since the last `tree`.
+    last_change: Vec<u8>,
+}
+
+impl Session {
+    /// The answer to a line without its line feed; none to a blank line or a comment.
+    pub fn answer(&mut self, line: &[u8]) -> Option<String> {
+        let words = words(line);
+        let (first, rest) = words.split_first()?;
+        if first.starts_with(b"#") {
+            return None;
+        }
+        Some(match Command::parse(first, rest) {
+            Ok(command) => match self.run(&command) {
+                Ok(answer) => answer.to_string(),
+                Err(refusal) => refusal.to_string(),
+            },
+            Err(malformed) => malformed.to_string(),
+        })
+    }
+
+    /// Carries a command out.
+    fn run(&mut self, command: &Command) -> Result<Answer, Refusal> {
+        match command {
+            Command::Seal {
+                key,
+                nonce,
+                marked,
+                content,
+            } => Ok(Answer::Bytes(aead::seal(key, nonce, marked, content)?)),
+            Command::Open {
+                key,
+                nonce,
+                marked,
+                sealed,
+            } => Ok(Answer::Bytes(aead::open(key, nonce, marked, sealed)?)),
+            Command::Block {
+                key,
+                counter,
+                nonce,
+            } => {
+                let block = chacha20::block(key, *counter, nonce);
+                Ok(Answer::Bytes(block.to_vec()))
+            }
+            Command::Stream {
+                key,
+                counter,
+                nonce,
+                content,
+            } => {
+                let encrypted = chacha20::encrypt(key, *counter, nonce, content)?;
+                Ok(Answer::Bytes(encrypted))
+            }
+            Command::Once { key, nonce } => {
+                let OneTimeKey(once) = aead::one_time_key(key, nonce);
+                Ok(Answer::Bytes(once.to_vec()))
+            }
+            Command::Mark { once, message } => {
+                let Tag(tag) = poly1305::tag(once, message);
+                Ok(Answer::Bytes(tag.to_vec()))
+            }
+            Command::Tree { places } => Ok(self.begin_tree(*places)),
+            Command::Put { place, content } => {
+                self.change(|tree| change::put(tree, *place, content))
+            }
+            Command::Out { place } => self.change(|tree| change::take_out(tree, *place)),
+            Command::Bytes => Ok(Answer::Bytes(self.last_change.clone())),
+            Command::Decode { places, bytes } => {
+                Ok(Answer::Decoded(records::decode(*places, bytes)))
+            }
+        }
+    }
+
+    fn begin_tree(&mut self, places: Places) -> Answer {
+        self.tree = Some(Tree::new(places));
+        self.last_change.clear();
+        Answer::Done
+    }
+
+    /// Changes the tree, if there is one. A refused change is none: the last one stays the last.
+    fn change(
+        &mut self,
+        change: impl FnOnce(&mut Tree) -> Result<Change, Refused>,
+    ) -> Result<Answer, Refusal> {
+        let tree = self.tree.as_mut().ok_or(Refusal::NoTree)?;
+        let change = change(tree)?;
+        self.last_change = change.encode();
+        Ok(Answer::Changed(change))
+    }
 }
 
 #[cfg(test)]
 mod tests {
     use super::*;
 
+    /// The answer to a line that nothing came before.
+    fn answer(line: &[u8]) -> Option<String> {
+        Session::default().answer(line)
+    }
+
     fn assert_answer(line: &str, expected: &str) {
         assert_eq!(answer(line.as_bytes()).as_deref(), Some(expected));
+    }
+
+    /// The answers to lines that come one after another.
+    fn assert_answers(lines: &[(&str, &str)]) {
+        let mut session = Session::default();
+        for (line, expected) in lines {
+            let answer = session.answer(line.as_bytes());
+            assert_eq!(answer.as_deref(), Some(*expected), "{line}");
+        }
     }
 
     const KEY: &str = "0000000000000000000000000000000000000000000000000000000000000000";
@@ -312,6 +464,11 @@ mod tests {
         assert_answer("stream - - -", "malformed: expected 4 fields");
         assert_answer("once", "malformed: expected 2 fields");
         assert_answer("mark - - -", "malformed: expected 2 fields");
+        assert_answer("tree", "malformed: expected 1 fields");
+        assert_answer("put 0", "malformed: expected 2 fields");
+        assert_answer("out 0 -", "malformed: expected 1 fields");
+        assert_answer("bytes -", "malformed: expected 0 fields");
+        assert_answer("decode 2", "malformed: expected 2 fields");
         assert_eq!(
             answer(b"\xff\xfe").as_deref(),
             Some("malformed: unknown command")
@@ -382,5 +539,113 @@ mod tests {
             &format!("open {KEY} {NONCE} - {wrong}"),
             "refused 3: does not open",
         );
+    }
+
+    #[test]
+    fn numbers_of_places() {
+        for good in ["2", "4", "8", "02", "0000000000000000000000008"] {
+            assert_answer(&format!("tree {good}"), "ok");
+            assert_answer(&format!("decode {good} -"), "ends too early");
+        }
+        for bad in [
+            "0",
+            "1",
+            "3",
+            "16",
+            "22",
+            "4294967296",
+            "4294967298",
+            "-",
+            "+2",
+            "2.0",
+            "two",
+        ] {
+            for line in [format!("tree {bad}"), format!("decode {bad} zz")] {
+                assert_answer(&line, "malformed: PLACES must be 2, 4 or 8");
+            }
+        }
+        assert_answer("decode 2 0", "malformed: BYTES is not hex");
+    }
+
+    #[test]
+    fn numbers_of_a_place() {
+        for bad in ["4294967296", "-", "-1", "+1", "0x1", "zz"] {
+            for line in [format!("put {bad} zz"), format!("out {bad}")] {
+                assert_answer(&line, "malformed: PLACE must be a number up to 4294967295");
+            }
+        }
+        assert_answer("put 4294967295 0", "malformed: CONTENT is not hex");
+        assert_answer("put 4294967295 -", "refused: no tree");
+        assert_answer("out 0004294967295", "refused: no tree");
+    }
+
+    #[test]
+    fn changes_from_line_to_line() {
+        assert_answers(&[
+            ("bytes", "-"),
+            ("put 0 78", "refused: no tree"),
+            ("tree 4", "ok"),
+            ("bytes", "-"),
+            (
+                "put 0 78",
+                "content of node 4 under key 1: 78; key 1 of node 4 under key 2; \
+                 key 2 of node 2 under key 3; root 3",
+            ),
+            (
+                "put 1 79",
+                "content of node 5 under key 4: 79; key 4 of node 5 under key 5; \
+                 key 1 of node 4 under key 5; key 5 of node 2 under key 6; root 6",
+            ),
+            (
+                "out 0",
+                "node 4 taken out, next key 7; key 4 of node 5 under key 7; \
+                 key 7 of node 2 under key 8; root 8",
+            ),
+            ("tree 3", "malformed: PLACES must be 2, 4 or 8"),
+            (
+                "out 0",
+                "node 4 taken out, next key 9; key 4 of node 5 under key 9; \
+                 key 9 of node 2 under key 10; root 10",
+            ),
+            ("tree 2", "ok"),
+            ("out 1", "node 3 taken out, next key 1; root 1"),
+        ]);
+    }
+
+    #[test]
+    fn bytes_are_those_of_the_last_change() {
+        const REFUSED: &str = "refused 1: no such place, or a content of 0 or more than 4096 bytes";
+        let too_long = format!("put 0 {}", "00".repeat(4097));
+        assert_answers(&[
+            ("tree 2", "ok"),
+            ("put 2 78", REFUSED),
+            ("bytes", "-"),
+            ("out 0", "node 2 taken out, next key 1; root 1"),
+            ("bytes", "450000000200000001"),
+            ("bytes", "450000000200000001"),
+            ("put 0 -", REFUSED),
+            (&too_long, REFUSED),
+            ("out 2", REFUSED),
+            ("decode 2 45", "ends too early"),
+            ("bytes 0", "malformed: expected 0 fields"),
+            ("bytes", "450000000200000001"),
+            ("tree 2", "ok"),
+            ("bytes", "-"),
+        ]);
+    }
+
+    #[test]
+    fn decoded_records() {
+        assert_answer(
+            "decode 4 430000000400000001000178000102030405060708090a0b0c0d0e0fff",
+            "content of node 4 under key 1: 78; rest 1",
+        );
+        assert_answer(
+            "decode 4 450000000700000009",
+            "node 7 taken out, next key 9; rest 0",
+        );
+        assert_answer("decode 2 450000000700000009", "another form");
+        assert_answer("decode 4 4500000007000000", "ends too early");
+        assert_answer("decode 4 00", "another form");
     }
 }

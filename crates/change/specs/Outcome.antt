@@ -4,7 +4,7 @@ use mathlib.Core.Bool.{Bool, true, false, cond, _||_}
 use mathlib.Core.List.{List, _++_}
 use Prim.Native.Nat.{ℕ, _+_, _<_, _≤_, _^_}
 use lib.Dec.{eqb, ltb, leb}
-use lib.ListN.{length}
+use lib.ListN.{length, replicate}
 use Rattle.std.specs.declared.option.Option.{Option}
 use Rattle.std.specs.declared.option.Option.the-variants.{None, Some}
 use Rattle.std.specs.declared.result.Result.{Result}
@@ -55,5 +55,12 @@ abbrev pub Writes : Way → (levels place : ℕ) → Option (List ℕ) → (keys
 Writes sealed levels place w keys last nodes before (Ok number) after =
     (refusal levels place w (length keys) last ≡ None) × (number ≡ last + draws w levels)
     × ((t : Tree Numbered (List ℕ)) → Beside levels place t nodes → after ≡ before ++ bytesOf sealed levels (records (last + 1) (root levels) (single w (counted w last (bytesIn keys)) levels place) t))
+    × (draws w levels ≤ length keys)
 Writes sealed levels place w keys last nodes before (Err (Refused f)) after = (refusal levels place w (length keys) last ≡ Some f) × (after ≡ before)
 Writes sealed levels place w keys last nodes before (Err Memory) after = after ≡ before
+
+-- What a change leaves of the keys that were handed in. Answered: key i, the root's new one, is moved to root, and every key handed in is zeros. Else nothing has changed.
+abbrev pub Leaves : (i : ℕ) (keys : List Key) (root : Key) → Result ℕ Failure → (keys-after : List Key) (root-after : Key) → Type 0
+Leaves i keys root (Ok number) keys-after root-after =
+    (root-after .bytes ≡ bytesIn keys i) × ((j : ℕ) → j < length keys → bytesIn keys-after j ≡ replicate 32 0)
+Leaves i keys root (Err why) keys-after root-after = (keys-after ≡ keys) × (root-after ≡ root)

@@ -52,7 +52,7 @@ pub enum Command {
 }
 
 // A byte string of any length.
-fn byte_string(heap: Global, field: Field, word: &[u8]) -> Result<Vec<u8>, Failure>
+pub(crate) fn byte_string(heap: Global, field: Field, word: &[u8]) -> Result<Vec<u8>, Failure>
     ensures { λ r. ⌜ ReadsBytes vec-items field (now (word .entry)) r ⌝ }
 {
     if let b"-" = word {
@@ -82,11 +82,10 @@ fn nonce_of(heap: Global, word: &[u8]) -> Result<Nonce, Failure>
     Ok(Nonce(fixed(heap, Field::Nonce, word)?))
 }
 
-// A counter.
-fn counter_of(word: &[u8]) -> Result<u32, Malformed>
+// A number of 32 bits.
+pub(crate) fn number_of(field: Field, word: &[u8]) -> Result<u32, Malformed>
     ensures { λ r. ⌜ okPart r ≡ numberOf (now (word .entry)) ⌝ }
 {
-    let field = Field::Counter;
     numbers::counter(word).ok_or(Malformed::NotACounter { field })
 }
 
@@ -141,7 +140,7 @@ impl Command {
             return Err(Malformed::FieldCount { expected: 3 }.into());
         };
         let mut key = fixed(heap, Field::Key, key)?;
-        let counter = counter_of(counter)?;
+        let counter = number_of(Field::Counter, counter)?;
         let nonce = nonce_of(heap, nonce)?;
         Ok(Command::Block {
             key: Key::take(&mut key),
@@ -155,7 +154,7 @@ impl Command {
             return Err(Malformed::FieldCount { expected: 4 }.into());
         };
         let mut key = fixed(heap, Field::Key, key)?;
-        let counter = counter_of(counter)?;
+        let counter = number_of(Field::Counter, counter)?;
         let nonce = nonce_of(heap, nonce)?;
         let content = byte_string(heap, Field::Content, content)?;
         Ok(Command::Stream {

@@ -7,8 +7,12 @@ use crate::fields::FieldDebug;
 use crate::fields::FieldDisplay;
 use crate::fields::FieldPartialEq;
 use chacha20::stream::TooLong;
+use rehearsal::failure::Failure as Unmade;
 use std::alloc::AllocError;
 use std::fmt;
+use tree::answer::Refusal as Unchanged;
+use tree::answer::RefusalDebug as UnchangedDebug;
+use tree::answer::RefusalPartialEq as UnchangedPartialEq;
 
 // Why a line is no command.
 #[derive(Clone, Copy, PartialEq, Eq, Debug)]
@@ -18,6 +22,7 @@ pub enum Malformed {
     NotHex { field: Field },
     Length { field: Field, expected: usize },
     NotACounter { field: Field },
+    NotPlaces { field: Field },
 }
 
 pub impl fmt::Display for Malformed as MalformedDisplay {
@@ -36,6 +41,7 @@ pub impl fmt::Display for Malformed as MalformedDisplay {
                 let most = u32::MAX;
                 write!(f, "malformed: {field} must be a number up to {most}")
             }
+            Malformed::NotPlaces { field } => write!(f, "malformed: {field} must be 2, 4 or 8"),
         }
     }
 }
@@ -45,16 +51,35 @@ pub impl fmt::Display for Malformed as MalformedDisplay {
 pub enum Refusal {
     DoesNotOpen,
     TooLong,
+    NoTree,
+    Change(Unchanged),
+}
+
+// Why a change is refused.
+fn reason(why: Unchanged) -> &'static str {
+    match why {
+        Unchanged::NoSuchPlace => "no such place, or a content of 0 or more than 4096 bytes",
+        Unchanged::Nothing => "nothing is there",
+        Unchanged::DoesNotOpen => "does not open",
+        Unchanged::Old => "old",
+        Unchanged::Damaged => "damaged",
+        Unchanged::FewKeys => "too few keys",
+        Unchanged::NumbersSpent => "numbers are spent",
+    }
 }
 
 pub impl fmt::Display for Refusal as RefusalDisplay {
     fn fmt<W: fmt::Write>(&self, f: &mut fmt::Formatter<W>) -> fmt::Result {
-        f.write_str(
-            match self {
-                Refusal::DoesNotOpen => "refused 3: does not open",
-                Refusal::TooLong => "refused: too long",
-            },
-        )
+        match self {
+            Refusal::DoesNotOpen => f.write_str("refused 3: does not open"),
+            Refusal::TooLong => f.write_str("refused: too long"),
+            Refusal::NoTree => f.write_str("refused: no tree"),
+            Refusal::Change(why) => {
+                let number = why.number();
+                let reason = reason(*why);
+                write!(f, "refused {number}: {reason}")
+            }
+        }
     }
 }
 
@@ -95,5 +120,14 @@ pub impl From<AllocError> for Failure as FailureFromAlloc {
 
     fn from(_error: AllocError) -> Failure {
         Failure::Memory
+    }
+}
+
+pub impl From<Unmade> for Failure as FailureFromUnmade {
+    fn from(unmade: Unmade) -> Failure {
+        match unmade {
+            Unmade::Refused(why) => Failure::Refused(Refusal::Change(why)),
+            Unmade::Memory => Failure::Memory,
+        }
     }
 }

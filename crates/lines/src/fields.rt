@@ -12,6 +12,9 @@ pub enum Field {
     Counter,
     Once,
     Message,
+    Places,
+    Place,
+    Bytes,
 }
 
 impl Field {
@@ -25,6 +28,9 @@ impl Field {
             Field::Counter => "COUNTER",
             Field::Once => "ONCE",
             Field::Message => "MESSAGE",
+            Field::Places => "PLACES",
+            Field::Place => "PLACE",
+            Field::Bytes => "BYTES",
         }
     }
 }
