@@ -6,6 +6,7 @@
 demo:
 	@rt check rehearse > /dev/null
 	@bash demo/seal.sh
+	@bash demo/changes.sh
 
 test:
 	@bash tests/all.sh
