@@ -22,8 +22,8 @@ mapfile -t answers < <(printf '%s\n' "tree 4" "${lines[@]}" | "$rehearse" | tail
 for i in "${!titles[@]}"; do
     echo
     echo "  ${titles[$i]}; written:"
-    printf '%s\n' "${answers[$i]}" | sed 's/; /\n/g' | sed 's/^root \(.*\)/the chip gets key \1 in place of the key it had/; s/^/    /'
+    printf '%s\n' "${answers[$i]}" | sed 's/; /\n/g' | sed "s/^root \(.*\)/the root's new key is \1/; s/^/    /"
 done
 echo
 echo "  Key 1, under which the letter was sealed, is sealed under keys 2 and 5 only, and those under 3 and 6."
-echo "  Whoever reads the chip now finds key 8, which opens none of them."
+echo "  Whoever has key 8, the root's key now, and all that was ever written, can open none of them."
