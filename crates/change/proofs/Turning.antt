@@ -10,20 +10,20 @@ use Rattle.std.proofs.shelf.Lists.{append-nil}
 use Rattle.forgetting.specs.Change.{Numbered}
 use Rattle.sealing.specs.declared.key.Key.{Key}
 use Rattle.change.specs.declared.node.Node.{Node}
-use Rattle.change.specs.Coded.{Way}
-use Rattle.change.specs.Nodes.{besideIn}
+use Rattle.change.specs.Coded.{Cipher}
+use Rattle.change.specs.Nodes.{siblingIn}
 use Rattle.change.specs.Turns.{turnBytes, turnsBytes}
 
-pub turns-none : (sealed : Way) (start first last : ℕ) (keys : List Key) (beside : List Node) (before : List ℕ)
-    → before ≡ before ++ turnsBytes sealed start first last keys beside 0
+pub turns-none : (sealed : Cipher) (start first last : ℕ) (keys : List Key) (siblings : List Node) (before : List ℕ)
+    → before ≡ before ++ turnsBytes sealed start first last keys siblings 0
 unfolding turnsBytes
-turns-none sealed start first last keys beside before = sym (append-nil before)
+turns-none sealed start first last keys siblings before = sym (append-nil before)
 
-pub turns-more : (sealed : Way) (start first last : ℕ) (keys : List Key) (beside : List Node) (h : ℕ)
-    → turnsBytes sealed start first last keys beside h ++ turnBytes sealed (start / 2 ^ h) last keys (h + first) (besideIn beside h)
-    ≡ turnsBytes sealed start first last keys beside (h + 1)
+pub turns-more : (sealed : Cipher) (start first last : ℕ) (keys : List Key) (siblings : List Node) (h : ℕ)
+    → turnsBytes sealed start first last keys siblings h ++ turnBytes sealed (start / 2 ^ h) last keys (h + first) (siblingIn siblings h)
+    ≡ turnsBytes sealed start first last keys siblings (h + 1)
 unfolding turnsBytes
-turns-more sealed start first last keys beside h = rw (add-one h)
+turns-more sealed start first last keys siblings h = rw (add-one h)
 
 -- The node one level up.
 pub half-more : (start h node : ℕ) → node ≡ start / 2 ^ h → node / 2 ≡ start / 2 ^ (h + 1)

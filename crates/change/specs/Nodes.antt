@@ -21,9 +21,9 @@ heldKey number (Secret key) = Some (record { number = number; bytes = key .bytes
 abbrev pub keyIn : Node → Option Numbered
 keyIn node = heldKey (node .number) (node .held)
 
--- The key of the node beside the way, h levels above the place.
-abbrev pub besideIn : List Node → ℕ → Option Numbered
-besideIn nodes h = getD (map keyIn nodes) h None
+-- The key of the sibling on the path, h levels above the place.
+abbrev pub siblingIn : List Node → ℕ → Option Numbered
+siblingIn nodes h = getD (map keyIn nodes) h None
 
 -- The bytes of key j of a list.
 abbrev pub bytesIn : List Key → ℕ → List ℕ

@@ -16,13 +16,13 @@ use Rattle.tree.specs.declared.answer.Refusal.{Refusal}
 use Rattle.tree.specs.declared.answer.Refusal.the-variants.{NoSuchPlace, FewKeys, NumbersSpent}
 use Rattle.forgetting.specs.Tree.{Tree}
 use Rattle.forgetting.specs.Change.{records, single, draws, counted, Numbered}
-use Rattle.forgetting.specs.Climb.{besideKey}
+use Rattle.forgetting.specs.Climb.{siblingKey}
 use Rattle.forgetting.specs.History.{root}
 use Rattle.change.specs.declared.node.Node.{Node}
 use Rattle.change.specs.declared.failure.Failure.{Failure}
 use Rattle.change.specs.declared.failure.Failure.the-variants.{Refused, Memory}
-use Rattle.change.specs.Coded.{Way, bytesOf}
-use Rattle.change.specs.Nodes.{besideIn, bytesIn}
+use Rattle.change.specs.Coded.{Cipher, bytesOf}
+use Rattle.change.specs.Nodes.{siblingIn, bytesIn}
 
 -- A content that a place can hold; taking out asks for none.
 abbrev pub isContent : Option (List ℕ) → Bool
@@ -46,15 +46,15 @@ Checked levels place w given last (Ok node) =
     (refusal levels place w given last ≡ None) × (node .number ≡ 2 ^ levels + place) × (place < 2 ^ levels) × (draws w levels ≤ given) × (last + draws w levels ≤ highest)
 Checked levels place w given last (Err f) = refusal levels place w given last ≡ Some f
 
--- The nodes are those beside the way to a place in a tree.
-abbrev pub Beside : (levels place : ℕ) → Tree Numbered (List ℕ) → List Node → Type 0
-Beside levels place t nodes = (h : ℕ) → h < levels → besideIn nodes h ≡ besideKey levels place h t
+-- The nodes are the siblings along the path to a place in a tree.
+abbrev pub Siblings : (levels place : ℕ) → Tree Numbered (List ℕ) → List Node → Type 0
+Siblings levels place t nodes = (h : ℕ) → h < levels → siblingIn nodes h ≡ siblingKey levels place h t
 
--- Answered, with the number of the root's new key: the bytes of the change's records follow what was there, whatever tree it is of which these are the nodes beside the way. Refused, or out of memory: nothing was written.
-abbrev pub Writes : Way → (levels place : ℕ) → Option (List ℕ) → (keys : List Key) (last : ℕ) (nodes : List Node) (before : List ℕ) → Result ℕ Failure → (after : List ℕ) → Type 0
+-- Answered, with the number of the root's new key: the bytes of the change's records follow what was there, whatever tree it is of which these are the siblings along the path. Refused, or out of memory: nothing was written.
+abbrev pub Writes : Cipher → (levels place : ℕ) → Option (List ℕ) → (keys : List Key) (last : ℕ) (nodes : List Node) (before : List ℕ) → Result ℕ Failure → (after : List ℕ) → Type 0
 Writes sealed levels place w keys last nodes before (Ok number) after =
     (refusal levels place w (length keys) last ≡ None) × (number ≡ last + draws w levels)
-    × ((t : Tree Numbered (List ℕ)) → Beside levels place t nodes → after ≡ before ++ bytesOf sealed levels (records (last + 1) (root levels) (single w (counted w last (bytesIn keys)) levels place) t))
+    × ((t : Tree Numbered (List ℕ)) → Siblings levels place t nodes → after ≡ before ++ bytesOf sealed levels (records (last + 1) (root levels) (single w (counted w last (bytesIn keys)) levels place) t))
     × (draws w levels ≤ length keys)
 Writes sealed levels place w keys last nodes before (Err (Refused f)) after = (refusal levels place w (length keys) last ≡ Some f) × (after ≡ before)
 Writes sealed levels place w keys last nodes before (Err Memory) after = after ≡ before

@@ -6,17 +6,17 @@ use Rattle.forgetting.specs.Change.{Numbered}
 use Rattle.sealing.specs.declared.key.Key.{Key}
 use Rattle.tree.specs.Nodes.{siblingOf}
 use Rattle.change.specs.declared.node.Node.{Node}
-use Rattle.change.specs.Coded.{Way, keyBytes}
-use Rattle.change.specs.Nodes.{besideIn, drawnKey, drawnBefore}
+use Rattle.change.specs.Coded.{Cipher, keyBytes}
+use Rattle.change.specs.Nodes.{siblingIn, drawnKey, drawnBefore}
 
--- Under key j: the key drawn before it, which is that of the node on the way, and the key of the node beside that.
-abbrev pub turnBytes : Way → (node last : ℕ) (keys : List Key) (j : ℕ) (beside : Option Numbered) → List ℕ
-turnBytes sealed node last keys j beside =
+-- Under key j: the key drawn before it, which is that of the node on the path, and the key of that node's sibling.
+abbrev pub turnBytes : Cipher → (node last : ℕ) (keys : List Key) (j : ℕ) (siblings : Option Numbered) → List ℕ
+turnBytes sealed node last keys j siblings =
     keyBytes sealed node (node % 2) (drawnKey last keys j) (drawnBefore last keys j)
-    ++ keyBytes sealed (siblingOf node) (siblingOf node % 2) (drawnKey last keys j) beside
+    ++ keyBytes sealed (siblingOf node) (siblingOf node % 2) (drawnKey last keys j) siblings
 
 -- The first h turns from a node up; first: the index of the key that the node above it gets.
-unfoldable pub turnsBytes : Way → (start first last : ℕ) (keys : List Key) (beside : List Node) (h : ℕ) → List ℕ
-turnsBytes sealed start first last keys beside zero = []
-turnsBytes sealed start first last keys beside (suc h) =
-    turnsBytes sealed start first last keys beside h ++ turnBytes sealed (start / 2 ^ h) last keys (h + first) (besideIn beside h)
+unfoldable pub turnsBytes : Cipher → (start first last : ℕ) (keys : List Key) (siblings : List Node) (h : ℕ) → List ℕ
+turnsBytes sealed start first last keys siblings zero = []
+turnsBytes sealed start first last keys siblings (suc h) =
+    turnsBytes sealed start first last keys siblings h ++ turnBytes sealed (start / 2 ^ h) last keys (h + first) (siblingIn siblings h)

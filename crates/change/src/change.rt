@@ -31,13 +31,13 @@ fn write_put<S: Sealing>(
     content: &[u8],
     keys: &[Key],
     last: u32,
-    beside: &[Node],
+    siblings: &[Node],
     part: &mut [u8; 48],
     room: &mut [u8],
     out: &mut Vec<u8>,
 ) -> Result<(), AllocError>
-    requires { ⌜ levels < length (now keys) ⌝ ∗ ⌜ last + 2 + levels < 2 ^ 32 ⌝ ∗ ⌜ levels ≤ length (now beside) ⌝ ∗ ⌜ length (now content) ≤ 4096 ⌝ ∗ ⌜ 4112 ≤ length (now room) ⌝ }
-    ensures { λ r. ⌜ Extends r (vec-items (now (out .entry))) (encoded (codedContent sealed (node .number) 0 (drawnKey last (now (keys .entry)) 0) (now (content .entry))) ++ turnsBytes sealed (node .number) 1 last (now (keys .entry)) (now (beside .entry)) levels) (vec-items (now (out .exit))) ⌝ }
+    requires { ⌜ levels < length (now keys) ⌝ ∗ ⌜ last + 2 + levels < 2 ^ 32 ⌝ ∗ ⌜ levels ≤ length (now siblings) ⌝ ∗ ⌜ length (now content) ≤ 4096 ⌝ ∗ ⌜ 4112 ≤ length (now room) ⌝ }
+    ensures { λ r. ⌜ Extends r (vec-items (now (out .entry))) (encoded (codedContent sealed (node .number) 0 (drawnKey last (now (keys .entry)) 0) (now (content .entry))) ++ turnsBytes sealed (node .number) 1 last (now (keys .entry)) (now (siblings .entry)) levels) (vec-items (now (out .exit))) ⌝ }
 {
     let n = content.len() + 16;
     push_content(
@@ -49,7 +49,7 @@ fn write_put<S: Sealing>(
         &mut room[0..n],
         out,
     )?;
-    climb(cipher, node, levels, 1, keys, last, beside, part, out)
+    climb(cipher, node, levels, 1, keys, last, siblings, part, out)
 }
 
 // The records of a taking out: that it was, with the number of the next key, and then from the place up.
@@ -59,18 +59,18 @@ fn write_out<S: Sealing>(
     levels: usize,
     keys: &[Key],
     last: u32,
-    beside: &[Node],
+    siblings: &[Node],
     part: &mut [u8; 48],
     out: &mut Vec<u8>,
 ) -> Result<(), AllocError>
-    requires { ⌜ levels ≤ length (now keys) ⌝ ∗ ⌜ last + 1 + levels < 2 ^ 32 ⌝ ∗ ⌜ levels ≤ length (now beside) ⌝ }
-    ensures { λ r. ⌜ Extends r (vec-items (now (out .entry))) (encoded (outRecord (node .number) (last + 1)) ++ turnsBytes sealed (node .number) 0 last (now (keys .entry)) (now (beside .entry)) levels) (vec-items (now (out .exit))) ⌝ }
+    requires { ⌜ levels ≤ length (now keys) ⌝ ∗ ⌜ last + 1 + levels < 2 ^ 32 ⌝ ∗ ⌜ levels ≤ length (now siblings) ⌝ }
+    ensures { λ r. ⌜ Extends r (vec-items (now (out .entry))) (encoded (outRecord (node .number) (last + 1)) ++ turnsBytes sealed (node .number) 0 last (now (keys .entry)) (now (siblings .entry)) levels) (vec-items (now (out .exit))) ⌝ }
 {
     push_out(node, last + 1, out)?;
-    climb(cipher, node, levels, 0, keys, last, beside, part, out)
+    climb(cipher, node, levels, 0, keys, last, siblings, part, out)
 }
 
-// Puts a content in a place: the records of the change at the end of `out`, and the number of the root's new key. The keys are drawn in their order; `beside` has the nodes beside the way, from the place up; `part` and `room` are working memory, which holds nothing that isn't sealed afterwards.
+// Puts a content in a place: the records of the change at the end of `out`, and the number of the root's new key. The keys are drawn in their order; `siblings` has the siblings along the path, from the place up; `part` and `room` are working memory, which holds nothing that isn't sealed afterwards.
 pub fn put<S: Sealing>(
     cipher: &mut S,
     levels: u32,
@@ -78,13 +78,13 @@ pub fn put<S: Sealing>(
     content: &[u8],
     keys: &[Key],
     last: u32,
-    beside: &[Node],
+    siblings: &[Node],
     part: &mut [u8; 48],
     room: &mut [u8],
     out: &mut Vec<u8>,
 ) -> Result<u32, Failure>
-    requires { ⌜ levels ≤ length (now beside) ⌝ ∗ ⌜ 4112 ≤ length (now room) ⌝ }
-    ensures { λ r. ⌜ Writes sealed levels place (Some (now (content .entry))) (now (keys .entry)) last (now (beside .entry)) (vec-items (now (out .entry))) r (vec-items (now (out .exit))) ⌝ }
+    requires { ⌜ levels ≤ length (now siblings) ⌝ ∗ ⌜ 4112 ≤ length (now room) ⌝ }
+    ensures { λ r. ⌜ Writes sealed levels place (Some (now (content .entry))) (now (keys .entry)) last (now (siblings .entry)) (vec-items (now (out .entry))) r (vec-items (now (out .exit))) ⌝ }
 {
     let node = match check_put(levels, place, content, keys.len(), last) {
         Ok(node) => node,
@@ -98,7 +98,7 @@ pub fn put<S: Sealing>(
         content,
         keys,
         last,
-        beside,
+        siblings,
         part,
         room,
         out,
@@ -117,19 +117,28 @@ pub fn take_out<S: Sealing>(
     place: u32,
     keys: &[Key],
     last: u32,
-    beside: &[Node],
+    siblings: &[Node],
     part: &mut [u8; 48],
     out: &mut Vec<u8>,
 ) -> Result<u32, Failure>
-    requires { ⌜ levels ≤ length (now beside) ⌝ }
-    ensures { λ r. ⌜ Writes sealed levels place None (now (keys .entry)) last (now (beside .entry)) (vec-items (now (out .entry))) r (vec-items (now (out .exit))) ⌝ }
+    requires { ⌜ levels ≤ length (now siblings) ⌝ }
+    ensures { λ r. ⌜ Writes sealed levels place None (now (keys .entry)) last (now (siblings .entry)) (vec-items (now (out .entry))) r (vec-items (now (out .exit))) ⌝ }
 {
     let node = match check_out(levels, place, keys.len(), last) {
         Ok(node) => node,
         Err(why) => return Err(Failure::Refused(why)),
     };
     let before = out.len();
-    let written = write_out(cipher, node, levels as usize, keys, last, beside, part, out);
+    let written = write_out(
+        cipher,
+        node,
+        levels as usize,
+        keys,
+        last,
+        siblings,
+        part,
+        out,
+    );
     if written.is_err() {
         out.truncate(before);
         return Err(Failure::Memory);
@@ -145,14 +154,14 @@ pub fn put_and_hand_over<S: Sealing>(
     content: &[u8],
     keys: &mut [Key],
     last: u32,
-    beside: &[Node],
+    siblings: &[Node],
     part: &mut [u8; 48],
     room: &mut [u8],
     out: &mut Vec<u8>,
     root: &mut Key,
 ) -> Result<u32, Failure>
-    requires { ⌜ levels ≤ length (now beside) ⌝ ∗ ⌜ 4112 ≤ length (now room) ⌝ }
-    ensures writes { λ r. ⌜ Writes sealed levels place (Some (now (content .entry))) (now (keys .entry)) last (now (beside .entry)) (vec-items (now (out .entry))) r (vec-items (now (out .exit))) ⌝ }
+    requires { ⌜ levels ≤ length (now siblings) ⌝ ∗ ⌜ 4112 ≤ length (now room) ⌝ }
+    ensures writes { λ r. ⌜ Writes sealed levels place (Some (now (content .entry))) (now (keys .entry)) last (now (siblings .entry)) (vec-items (now (out .entry))) r (vec-items (now (out .exit))) ⌝ }
     ensures leaves { λ r. ⌜ Leaves levels (now (keys .entry)) (now (root .entry)) r (now (keys .exit)) (now (root .exit)) ⌝ }
     ensures part { λ _. ⌜ now (part .exit) ≡ replicate 48 0 ⌝ }
     ensures room { λ _. ⌜ now (room .exit) ≡ replicate (length (now (room .entry))) 0 ⌝ }
@@ -164,7 +173,7 @@ pub fn put_and_hand_over<S: Sealing>(
         content,
         keys,
         last,
-        beside,
+        siblings,
         part,
         room,
         out,
@@ -186,17 +195,17 @@ pub fn take_out_and_hand_over<S: Sealing>(
     place: u32,
     keys: &mut [Key],
     last: u32,
-    beside: &[Node],
+    siblings: &[Node],
     part: &mut [u8; 48],
     out: &mut Vec<u8>,
     root: &mut Key,
 ) -> Result<u32, Failure>
-    requires { ⌜ 1 ≤ levels ⌝ ∗ ⌜ levels ≤ length (now beside) ⌝ }
-    ensures writes { λ r. ⌜ Writes sealed levels place None (now (keys .entry)) last (now (beside .entry)) (vec-items (now (out .entry))) r (vec-items (now (out .exit))) ⌝ }
+    requires { ⌜ 1 ≤ levels ⌝ ∗ ⌜ levels ≤ length (now siblings) ⌝ }
+    ensures writes { λ r. ⌜ Writes sealed levels place None (now (keys .entry)) last (now (siblings .entry)) (vec-items (now (out .entry))) r (vec-items (now (out .exit))) ⌝ }
     ensures leaves { λ r. ⌜ Leaves (levels - 1) (now (keys .entry)) (now (root .entry)) r (now (keys .exit)) (now (root .exit)) ⌝ }
     ensures part { λ _. ⌜ now (part .exit) ≡ replicate 48 0 ⌝ }
 {
-    let answer = take_out(cipher, levels, place, keys, last, beside, part, out);
+    let answer = take_out(cipher, levels, place, keys, last, siblings, part, out);
     *part = [0; 48];
     let number = match answer {
         Ok(number) => number,

@@ -17,7 +17,7 @@ use sealing::key::Key;
 use std::alloc::AllocError;
 use tree::node::NodeId;
 
-// The record of the key drawn before key j, which is that of the node on the way, under key j; nothing where none was.
+// The record of the key drawn before key j, which is that of the node on the path, under key j; nothing where none was.
 fn push_below<S: Sealing>(
     cipher: &mut S,
     node: NodeId,
@@ -46,23 +46,23 @@ fn push_below<S: Sealing>(
     )
 }
 
-// One turn: under key j, the key of the node on the way, and then that of the node beside it.
+// One turn: under key j, the key of the node on the path, and then that of its sibling.
 fn push_both<S: Sealing>(
     cipher: &mut S,
     node: NodeId,
     j: usize,
     keys: &[Key],
     last: u32,
-    beside: &Node,
+    sibling: &Node,
     part: &mut [u8; 48],
     out: &mut Vec<u8>,
 ) -> Result<(), AllocError>
     requires { ⌜ j < length (now keys) ⌝ ∗ ⌜ last + 1 + j < 2 ^ 32 ⌝ }
-    ensures { λ r. ⌜ Extends r (vec-items (now (out .entry))) (turnBytes sealed (node .number) last (now (keys .entry)) j (keyIn (now (beside .entry)))) (vec-items (now (out .exit))) ⌝ }
+    ensures { λ r. ⌜ Extends r (vec-items (now (out .entry))) (turnBytes sealed (node .number) last (now (keys .entry)) j (keyIn (now (sibling .entry)))) (vec-items (now (out .exit))) ⌝ }
 {
     push_below(cipher, node, j, keys, last, part, out)?;
     let under = last + 1 + j as u32;
-    push_node(cipher, node.sibling(), beside, under, &keys[j], part, out)
+    push_node(cipher, node.sibling(), sibling, under, &keys[j], part, out)
 }
 
 // The turns from a node up, one for each of so many levels; `first` is the index of the key that the node above it gets.
@@ -73,16 +73,16 @@ pub(crate) fn climb<S: Sealing>(
     first: usize,
     keys: &[Key],
     last: u32,
-    beside: &[Node],
+    siblings: &[Node],
     part: &mut [u8; 48],
     out: &mut Vec<u8>,
 ) -> Result<(), AllocError>
-    requires { ⌜ levels + first ≤ length (now keys) ⌝ ∗ ⌜ last + 1 + levels + first < 2 ^ 32 ⌝ ∗ ⌜ levels ≤ length (now beside) ⌝ }
-    ensures { λ r. ⌜ Extends r (vec-items (now (out .entry))) (turnsBytes sealed (start .number) first last (now (keys .entry)) (now (beside .entry)) levels) (vec-items (now (out .exit))) ⌝ }
+    requires { ⌜ levels + first ≤ length (now keys) ⌝ ∗ ⌜ last + 1 + levels + first < 2 ^ 32 ⌝ ∗ ⌜ levels ≤ length (now siblings) ⌝ }
+    ensures { λ r. ⌜ Extends r (vec-items (now (out .entry))) (turnsBytes sealed (start .number) first last (now (keys .entry)) (now (siblings .entry)) levels) (vec-items (now (out .exit))) ⌝ }
 {
     let mut node = start;
     for h in 0..levels {
-        push_both(cipher, node, h + first, keys, last, &beside[h], part, out)?;
+        push_both(cipher, node, h + first, keys, last, &siblings[h], part, out)?;
         node = node.parent();
     }
     Ok(())

@@ -63,7 +63,7 @@ Levels (suc d) (leaf k c) = ⊥
 Levels zero (node k l r) = ⊥
 Levels (suc d) (node k l r) = Levels d l × Levels d r
 
--- Whether the way to place p turns to the even node, h levels above the places.
+-- Whether the path to place p turns to the even node, h levels above the places.
 abbrev pub toEven : (h p : ℕ) → Bool
 toEven h p = eqb (p / 2 ^ h % 2) 0
 

@@ -11,7 +11,7 @@ use Rattle.std.specs.declared.result.Result.the-variants.{Ok, Err}
 use Rattle.cipher.specs.Sealed.{transparent}
 use Rattle.forgetting.specs.Tree.{Tree}
 use Rattle.forgetting.specs.Change.{records, single, draws, counted, Numbered}
-use Rattle.forgetting.specs.Climb.{besideKey}
+use Rattle.forgetting.specs.Climb.{siblingKey}
 use Rattle.forgetting.specs.History.{root}
 use Rattle.change.specs.Coded.{bytesOf}
 use Rattle.rehearsal.specs.declared.failure.Failure.{Failure}
@@ -19,12 +19,12 @@ use Rattle.rehearsal.specs.declared.state.Rehearsal.{Rehearsal}
 use Rattle.rehearsal.specs.Keys.{keysAfter}
 use Rattle.rehearsal.specs.Levels.{levelsOf}
 use Rattle.rehearsal.specs.Numbers.{climbed}
-use Rattle.rehearsal.specs.Beside.{besides}
+use Rattle.rehearsal.specs.Siblings.{siblingsOf}
 
--- The bytes are those of the change's records, whatever tree it is in which the nodes beside the way have the keys with these numbers.
+-- The bytes are those of the change's records, whatever tree it is in which the siblings along the path have the keys with these numbers.
 abbrev pub Recorded : (levels place last : ℕ) → Option (List ℕ) → (numbers : List (Option ℕ)) (bytes : List ℕ) → Type 0
 Recorded levels place last w numbers bytes =
-    (t : Tree Numbered (List ℕ)) → ((h : ℕ) → h < levels → getD (besides (2 ^ levels + place) numbers levels) h None ≡ besideKey levels place h t)
+    (t : Tree Numbered (List ℕ)) → ((h : ℕ) → h < levels → getD (siblingsOf (2 ^ levels + place) numbers levels) h None ≡ siblingKey levels place h t)
     → bytes ≡ bytesOf transparent levels (records (last + 1) (root levels) (single w (counted w last (λ j. getD (keysAfter last (draws w levels)) j [])) levels place) t)
 
 -- The node of a place.

@@ -1,5 +1,5 @@
 pub mod Keys
 pub mod Numbers
 pub mod Levels
-pub mod Beside
+pub mod Siblings
 pub mod Changes

@@ -2,7 +2,7 @@
 ghost use mathlib.Core.Path.{_≡_};
 ghost use mathlib.Core.List.{map};
 ghost use Rattle.change.specs.Nodes.{keyIn};
-ghost use Rattle.rehearsal.specs.Beside.{keyed, besides};
+ghost use Rattle.rehearsal.specs.Siblings.{keyed, siblingsOf};
 ghost use Rattle.rehearsal.specs.Keys.{keysAfter};
 ghost use Rattle.sealing.specs.declared.key.Key.{Key as Secret};
 ghost use Rattle.std.specs.Of.Vec.{vec-items, vec-len};
@@ -17,10 +17,10 @@ use std::alloc::AllocError;
 use std::alloc::Global;
 use tree::node::NodeId;
 
-// The keys that it draws, and the nodes beside the way, from the place up.
+// The keys that it draws, and the siblings along the path, from the place up.
 pub struct Given {
     pub keys: Vec<Key>,
-    pub beside: Vec<Node>,
+    pub siblings: Vec<Node>,
 }
 
 // A node with the key of that number, or without a key.
@@ -39,14 +39,14 @@ fn node_of(number: Option<u32>) -> Node
     }
 }
 
-// The nodes beside the way from a node up.
-fn beside(
+// The siblings along the path from a node up.
+fn siblings(
     heap: Global,
     numbers: &Numbers,
     start: NodeId,
     levels: u32,
 ) -> Result<Vec<Node>, AllocError>
-    ensures { λ r. ⌜ made r (λ nodes. (vec-len nodes ≡ levels) × (map keyIn (vec-items nodes) ≡ besides (start .number) (now (numbers .entry) .0) levels)) ⌝ }
+    ensures { λ r. ⌜ made r (λ nodes. (vec-len nodes ≡ levels) × (map keyIn (vec-items nodes) ≡ siblingsOf (start .number) (now (numbers .entry) .0) levels)) ⌝ }
 {
     let mut nodes = Vec::with_capacity(heap, levels as usize)?;
     let mut node = start;
@@ -69,7 +69,7 @@ fn let_go(mut nodes: Vec<Node>) {
 }
 
 impl Given {
-    // So many keys after the last number, and the nodes beside the way from a node up.
+    // So many keys after the last number, and the siblings along the path from a node up.
     pub fn new(
         heap: Global,
         numbers: &Numbers,
@@ -78,13 +78,13 @@ impl Given {
         last: u32,
         count: u32,
     ) -> Result<Given, AllocError>
-        ensures { λ r. ⌜ made r (λ given. (vec-len (given .beside) ≡ levels) × (map keyIn (vec-items (given .beside)) ≡ besides (start .number) (now (numbers .entry) .0) levels) × (map (λ (k : Secret). k .bytes) (vec-items (given .keys)) ≡ keysAfter last count)) ⌝ }
+        ensures { λ r. ⌜ made r (λ given. (vec-len (given .siblings) ≡ levels) × (map keyIn (vec-items (given .siblings)) ≡ siblingsOf (start .number) (now (numbers .entry) .0) levels) × (map (λ (k : Secret). k .bytes) (vec-items (given .keys)) ≡ keysAfter last count)) ⌝ }
     {
-        let beside = beside(heap, numbers, start, levels)?;
+        let siblings = siblings(heap, numbers, start, levels)?;
         match keys::draw(heap, last, count) {
-            Ok(keys) => Ok(Given { keys, beside }),
+            Ok(keys) => Ok(Given { keys, siblings }),
             Err(error) => {
-                let_go(beside);
+                let_go(siblings);
                 Err(error)
             }
         }
@@ -92,8 +92,8 @@ impl Given {
 
     // Wipes every key.
     pub fn wipe(self) {
-        let Given { keys, beside } = self;
+        let Given { keys, siblings } = self;
         keys::let_go(keys);
-        let_go(beside);
+        let_go(siblings);
     }
 }

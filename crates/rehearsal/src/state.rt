@@ -108,7 +108,7 @@ impl Rehearsal {
             content,
             &given.keys,
             self.last,
-            &given.beside,
+            &given.siblings,
             &mut [0; PART],
             &mut room,
             out,
@@ -135,7 +135,7 @@ impl Rehearsal {
             place,
             &given.keys,
             self.last,
-            &given.beside,
+            &given.siblings,
             &mut [0; PART],
             out,
         );

@@ -1,5 +1,5 @@
 use mathlib.Core.Path.{ap}
-use Rattle.rehearsal.specs.Beside.{keyed}
+use Rattle.rehearsal.specs.Siblings.{keyed}
 use Rattle.rehearsal.proofs.given.node_of.Needs as need
 
 pub returns-in-Some : need.returns-in-Some

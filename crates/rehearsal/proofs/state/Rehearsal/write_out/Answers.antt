@@ -5,7 +5,7 @@ use Rattle.sealing.specs.declared.key.Key.{Key}
 use Rattle.std.specs.Of.Vec.{vec-items}
 use Rattle.std.specs.declared.option.Option.the-variants.{None}
 use Rattle.change.specs.Nodes.{keyIn}
-use Rattle.rehearsal.specs.Beside.{besides}
+use Rattle.rehearsal.specs.Siblings.{siblingsOf}
 use Rattle.rehearsal.proofs.Recording.{recorded}
 use Rattle.rehearsal.proofs.state.Rehearsal.write_out.Needs as need
 
@@ -16,7 +16,7 @@ returns c =
       told .1,
       recorded (c .args .levels) (c .args .place) (c .args .self .now .last) None (c .deref .result .now) (c .deref-2 .result .now) (c .args .self .now .numbers .0) (vec-items (c .args .out .now)) (vec-items (c .take-out-root .last .out))
           (ap (map (λ (k : Key). k .bytes)) (c .deref .ensures .value) ∙ given .2)
-          (ap (map keyIn) (c .deref-2 .ensures .value) ∙ given .1 ∙ ap (λ (n : ℕ). besides n (c .args .self .now .numbers .0) (c .args .levels)) (c .pre .0))
+          (ap (map keyIn) (c .deref-2 .ensures .value) ∙ given .1 ∙ ap (λ (n : ℕ). siblingsOf n (c .args .self .now .numbers .0) (c .args .levels)) (c .pre .0))
           (c .pre .1 .0)
           (told .2),
     )

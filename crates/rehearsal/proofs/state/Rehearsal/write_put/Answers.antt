@@ -6,7 +6,7 @@ use Rattle.std.specs.Of.Vec.{vec-items}
 use Rattle.std.specs.declared.option.Option.the-variants.{Some}
 use Rattle.std.proofs.shelf.Results.{made-from-err}
 use Rattle.change.specs.Nodes.{keyIn}
-use Rattle.rehearsal.specs.Beside.{besides}
+use Rattle.rehearsal.specs.Siblings.{siblingsOf}
 use Rattle.rehearsal.proofs.Recording.{recorded}
 use Rattle.rehearsal.proofs.state.Rehearsal.write_put.Needs as need
 
@@ -23,7 +23,7 @@ returns c =
       told .1,
       recorded (c .args .levels) (c .args .place) (c .args .self .now .last) (Some (c .args .content .now)) (c .deref .result .now) (c .deref-2 .result .now) (c .args .self .now .numbers .0) (vec-items (c .args .out .now)) (vec-items (c .put-root .last .out))
           (ap (map (λ (k : Key). k .bytes)) (c .deref .ensures .value) ∙ given .2)
-          (ap (map keyIn) (c .deref-2 .ensures .value) ∙ given .1 ∙ ap (λ (n : ℕ). besides n (c .args .self .now .numbers .0) (c .args .levels)) (c .pre .0))
+          (ap (map keyIn) (c .deref-2 .ensures .value) ∙ given .1 ∙ ap (λ (n : ℕ). siblingsOf n (c .args .self .now .numbers .0) (c .args .levels)) (c .pre .0))
           (c .pre .1 .0)
           (told .2),
     )

@@ -1,4 +1,4 @@
--- The keys of the nodes beside the way from a place up.
+-- The keys of the siblings along the path from a place up.
 use mathlib.Core.List.{List, [], _∷_, _++_}
 use Prim.Native.Nat.{ℕ, zero, suc, _/_, _^_}
 use lib.ListN.{getD}
@@ -14,6 +14,6 @@ keyed None = None
 keyed (Some n) = Some (record { number = n; bytes = keyOf n })
 
 -- Those of so many levels, from a node up.
-unfoldable pub besides : (node : ℕ) → List (Option ℕ) → (levels : ℕ) → List (Option Numbered)
-besides node numbers zero = []
-besides node numbers (suc h) = besides node numbers h ++ keyed (getD numbers (siblingOf (node / 2 ^ h)) None) ∷ []
+unfoldable pub siblingsOf : (node : ℕ) → List (Option ℕ) → (levels : ℕ) → List (Option Numbered)
+siblingsOf node numbers zero = []
+siblingsOf node numbers (suc h) = siblingsOf node numbers h ++ keyed (getD numbers (siblingOf (node / 2 ^ h)) None) ∷ []
