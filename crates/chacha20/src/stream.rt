@@ -19,7 +19,7 @@ const BLOCKS: u64 = 0x1_0000_0000;
 const COUNTER: usize = 12;
 
 // The text takes more blocks than the counter can count.
-#[derive(Clone, Copy)]
+#[derive(Clone, Copy, PartialEq, Eq, Debug)]
 pub struct TooLong;
 
 // A key stream under way: the state that the next block begins from, the state that is worked on, and the block. All of it is secret, so it is lent, heap-held by its owner, and zeros whenever no call is under way.

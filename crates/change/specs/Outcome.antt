@@ -49,3 +49,9 @@ Writes sealed levels place w keys last nodes before (Ok number) after =
     × (draws w levels ≤ length keys)
 Writes sealed levels place w keys last nodes before (Err (Refused f)) after = (refusal levels place w (length keys) last ≡ Some f) × (after ≡ before)
 Writes sealed levels place w keys last nodes before (Err Memory) after = after ≡ before
+
+-- What a change leaves of the keys that were handed in. Answered: key i, the root's new one, is moved to root, and every key handed in is zeros. Else nothing has changed.
+abbrev pub Leaves : (i : ℕ) (keys : List Key) (root : Key) → Result ℕ Failure → (keys-after : List Key) (root-after : Key) → Type 0
+Leaves i keys root (Ok number) keys-after root-after =
+    (root-after.bytes ≡ bytes_in keys i) × ((j : ℕ) → j < length keys → bytes_in keys-after j ≡ replicate 32 0)
+Leaves i keys root (Err why) keys-after root-after = (keys-after ≡ keys) × (root-after ≡ root)

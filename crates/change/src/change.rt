@@ -4,11 +4,12 @@ ghost use Rattle.records.specs.Format.{encode as encoded, out as outRecord};
 ghost use Rattle.change.specs.Coded.{coded_content};
 ghost use Rattle.change.specs.Nodes.{drawn_key, Extends};
 ghost use Rattle.change.specs.Turns.{turns_bytes};
-ghost use Rattle.change.specs.Outcome.{Writes};
+ghost use Rattle.change.specs.Outcome.{Writes, Leaves};
 
 use crate::check::{check_out, check_put};
 use crate::climb::climb;
 use crate::failure::Failure;
+use crate::keys::hand_over;
 use crate::node::Node;
 use crate::write::{push_content, push_out};
 use cipher::sealing_trait::Sealing;
@@ -137,4 +138,64 @@ pub fn take_out<S: Sealing>(
         return Err(Failure::Memory);
     }
     Ok(last + levels)
+}
+
+// A put to its end: the root's new key is in `root`, and every key that was handed in is zeros. Refused, or out of memory, the keys are as they were. The working memory is zeros on every way.
+pub fn put_and_hand_over<S: Sealing>(
+    cipher: &mut S,
+    levels: u32,
+    place: u32,
+    content: &[u8],
+    keys: &mut [Key],
+    last: u32,
+    siblings: &[Node],
+    part: &mut [u8; 48],
+    room: &mut [u8],
+    out: &mut Vec<u8>,
+    root: &mut Key,
+) -> Result<u32, Failure>
+    requires { (levels ≤ length siblings.now) × (4112 ≤ length room.old) }
+    ensures writes { Writes sealed levels place (Some content.now) keys.old last siblings.now out.old.items result out.new.items }
+    ensures leaves { Leaves levels keys.old root.old result keys.new root.new }
+    ensures part { part.new ≡ replicate 48 0 }
+    ensures room { room.new ≡ replicate (length room.old) 0 }
+{
+    let answer = put(
+        cipher, levels, place, content, keys, last, siblings, part, room, out,
+    );
+    *part = [0; 48];
+    octets::wipe(room);
+    let number = match answer {
+        Ok(number) => number,
+        Err(why) => return Err(why),
+    };
+    hand_over(keys, levels as usize, root);
+    Ok(number)
+}
+
+// A taking out to its end: the same.
+pub fn take_out_and_hand_over<S: Sealing>(
+    cipher: &mut S,
+    levels: u32,
+    place: u32,
+    keys: &mut [Key],
+    last: u32,
+    siblings: &[Node],
+    part: &mut [u8; 48],
+    out: &mut Vec<u8>,
+    root: &mut Key,
+) -> Result<u32, Failure>
+    requires { (1 ≤ levels) × (levels ≤ length siblings.now) }
+    ensures writes { Writes sealed levels place None keys.old last siblings.now out.old.items result out.new.items }
+    ensures leaves { Leaves (levels - 1) keys.old root.old result keys.new root.new }
+    ensures part { part.new ≡ replicate 48 0 }
+{
+    let answer = take_out(cipher, levels, place, keys, last, siblings, part, out);
+    *part = [0; 48];
+    let number = match answer {
+        Ok(number) => number,
+        Err(why) => return Err(why),
+    };
+    hand_over(keys, levels as usize - 1, root);
+    Ok(number)
 }

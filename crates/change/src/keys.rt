@@ -26,3 +26,23 @@ impl NewKeys {
         wipe_keys(&mut self.keys);
     }
 }
+
+// The bytes of key i.
+fn bytes_of(keys: &[Key], i: usize) -> [u8; 32]
+    requires { i < length keys.now }
+    ensures { result ≡ bytes_in keys.now i }
+{
+    *keys[i].as_bytes()
+}
+
+// Puts key i in place of the one in `root`, and wipes all keys that were handed in.
+pub fn hand_over(keys: &mut [Key], i: usize, root: &mut Key)
+    requires { i < length keys.old }
+    ensures root { root.new.bytes ≡ bytes_in keys.old i }
+    ensures wiped { (j : ℕ) → j < length keys.old → bytes_in keys.new j ≡ replicate 32 0 }
+{
+    let mut bytes = bytes_of(keys, i);
+    root.wipe();
+    *root = Key::take(&mut bytes);
+    wipe_keys(keys);
+}

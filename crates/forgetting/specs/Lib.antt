@@ -3,4 +3,5 @@ pub mod Tree
 pub mod Change
 pub mod Lawful
 pub mod History
+pub mod Cases
 pub mod Climb

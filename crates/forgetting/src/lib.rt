@@ -1,6 +1,7 @@
 // The law between one change and any run of changes, and what follows for histories of changes. These functions do nothing: their contracts are the theorems.
 ghost use Rattle.forgetting.specs.Lawful.{ChangeLawful};
 ghost use Rattle.forgetting.specs.History.{KeyWhileHeld, KeysApart, UnderLater, ReadsAll, SingleDraws, SingleSets};
+ghost use Rattle.forgetting.specs.Cases.{Cases};
 ghost use Rattle.forgetting.specs.Climb.{Climbs};
 
 // For keys and contents of any types.
@@ -24,6 +25,13 @@ pub fn histories<K, C>() -> u8
 // A loop from the place up writes the records of the change.
 pub fn loops<K, C>() -> u8
     ensures { Climbs K C }
+{
+    0
+}
+
+// The records of three changes on four places.
+pub fn cases() -> u8
+    ensures { Cases }
 {
     0
 }

@@ -1,1 +1,5 @@
-pub mod Names
+pub mod Numbers
+pub mod Words
+pub mod Fields
+pub mod Tasks
+pub mod Runs

@@ -150,3 +150,46 @@ fn last_block(part: &[u8], end: u8) -> [u8; 16]
     block[rest] = end;
     block
 }
+
+#[cfg(test)]
+mod tests {
+    use super::*;
+
+    // RFC 8439, section 2.5.2.
+    const KEY: &[u8; 32] =
+        b"\x85\xd6\xbe\x78\x57\x55\x6d\x33\x7f\x44\x52\xfe\x42\xd5\x06\xa8\x01\x03\x80\x8a\xfb\x0d\xb2\xfd\x4a\xbf\xf6\xaf\x41\x49\xf5\x1b";
+
+    #[test]
+    fn tags(rt: HostRuntime) {
+        let cases: [(&[u8; 32], &[u8], &[u8; 16]); 3] = [
+            (
+                KEY,
+                b"Cryptographic Forum Research Group",
+                b"\xa8\x06\x1d\xc1\x30\x51\x36\xc6\xc2\x2b\x8b\xaf\x0c\x01\x27\xa9",
+            ),
+            // The sum reaches the prime, and is reduced once more.
+            (
+                b"\x02\0\0\0\0\0\0\0\0\0\0\0\0\0\0\0\0\0\0\0\0\0\0\0\0\0\0\0\0\0\0\0",
+                &[0xff; 16],
+                b"\x03\0\0\0\0\0\0\0\0\0\0\0\0\0\0\0",
+            ),
+            // The largest key and blocks: every limb carries, and the tag passes 128 bits.
+            (
+                &[0xff; 32],
+                &[0xff; 33],
+                b"\x86\xfa\x6a\x43\x7b\xf4\xec\x24\xa2\x74\x50\x4d\xc3\x74\x95\xbc",
+            ),
+        ];
+        let mut state = Poly1305::new();
+        for (key, message, tag) in cases {
+            assert_eq!(rt; mac(key, message, &mut state), *tag);
+        }
+        state.begin(KEY);
+        state.absorb_padded(b"Cryptographic Forum");
+        state.absorb_last(b"Research Group");
+        assert_eq!(rt;
+            state.finish(),
+            *b"\x0e\x0b\xad\x5e\x02\x6b\x34\x4a\x0e\x32\x1b\x0d\x3f\x99\xc3\xfd"
+        );
+    }
+}

@@ -1,2 +1,4 @@
 pub mod Drawing
+pub mod Climbing
 pub mod Shorter
+pub mod Recording

@@ -1,4 +1,8 @@
-// What a rehearsal needs: small trees, numbers for keys, and records in readable form.
+// A rehearsal: the proved changes on a small tree, with numbers for keys and sealing that hides nothing.
+pub mod failure;
+pub mod given;
 pub mod keys;
 pub mod levels;
+pub mod numbers;
 pub mod readable;
+pub mod state;

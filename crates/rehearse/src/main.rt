@@ -1,6 +1,6 @@
 // Answers the lines of standard input, one answer a line.
 use lines::answer;
-use seal_tasks::Work;
+use lines::tasks::Work;
 use std::alloc::Global;
 use std::io;
 use std::io::{BufRead, BufReader, Write};

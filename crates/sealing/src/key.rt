@@ -62,6 +62,6 @@ impl Key {
         ensures wiped { buffer.new ≡ replicate 32 0 }
     {
         self.bytes = *buffer;
-        *buffer = [0; 32];
+        *buffer = [0u8; 32];
     }
 }

@@ -1,7 +1,7 @@
 // Nonces, marks, and what opening comes to.
 
 // What tells apart the texts that are sealed under one key.
-#[derive(Clone, Copy)]
+#[derive(Clone, Copy, PartialEq, Eq, Debug)]
 pub struct Nonce(pub [u8; 12]);
 
 // The mark of a sealed text.
@@ -9,7 +9,7 @@ pub struct Nonce(pub [u8; 12]);
 pub struct Mark(pub [u8; 16]);
 
 // What opening comes to.
-#[derive(Clone, Copy)]
+#[derive(Clone, Copy, PartialEq, Eq, Debug)]
 pub enum Opening {
     // The text stands in the lent buffer.
     Opened,

@@ -18,3 +18,10 @@ pub enum Refusal {
     // A key would be drawn with a number past the highest.
     NumbersSpent,
 }
+
+// What reading a place comes to: the length of its content, which stands at the front of the lent buffer, or why there is none.
+#[derive(Clone, Copy, PartialEq, Eq, Debug)]
+pub enum Reading {
+    Content(usize),
+    Refused(Refusal),
+}

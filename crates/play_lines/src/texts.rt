@@ -1,6 +1,6 @@
 // The texts of complaints and refusals.
 ghost use Rattle.std.specs.Prelude.{◌≡◌, Some};
-ghost use Rattle.lines.specs.Names.{name_of};
+ghost use Rattle.play_lines.specs.Names.{name_of};
 
 use fields::faults::{Malformed, Refusal};
 use fields::field::Field;

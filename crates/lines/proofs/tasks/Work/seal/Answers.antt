@@ -1,0 +1,16 @@
+use Rattle.std.proofs.Common.{◌≡◌, ℕ, ◌≤◌, List, length, vec_items, ◌∙◌, subst, arith}
+use Rattle.sealing.specs.Aead.{ciphertext, tag, longest}
+use Rattle.lines.proofs.Buffers.{written_marked}
+use Rattle.lines.proofs.tasks.Work.seal.Goals as goal
+
+pub returns : goal.returns
+returns c =
+    let same = c.deref-mut.ensures.value in
+    let told = c.in-ok-mark.ensures.value in
+    let fits : List ℕ → Type 0 = λ l. length l ≤ longest in
+    let key : List ℕ = c.args.key.now.bytes in
+    let nonce : List ℕ = c.args.nonce.now.0 in (
+      subst fits same told.0,
+      c.in-ok-extend-from-slice.ensures.items
+          ∙ written_marked (ciphertext key nonce) (tag key nonce c.args.marked.now) _ c.deref-mut.result.now (vec_items c.args.content) c.seal.new.text _ c.in-ok-mark.mark.0 (omega arith) same told.1 told.2,
+    )

@@ -1,0 +1,23 @@
+use Rattle.std.proofs.Common.{◌≡◌, ℕ, List, map, get_or, None, vec_items, sym, ap, ◌∙◌, div-one, arith}
+use Rattle.tree.specs.Nodes.{sibling_of}
+use Rattle.change.specs.Nodes.{key_in}
+use Rattle.rehearsal.specs.Siblings.{keyed}
+use Rattle.rehearsal.proofs.Recording.{no_sibling, one_sibling, half_more}
+use Rattle.rehearsal.proofs.given.siblings.Goals as goal
+
+pub loop-h-init : goal.loop-h-init
+loop-h-init c =
+    let begun = c.in-ok-nodes.ensures in
+    (begun.len, begun.capacity, sym (div-one c.args.start.number), no_sibling c.args.start.number c.args.numbers.now.0 (vec_items c.in-ok-nodes.nodes) begun.items)
+
+pub loop-h-preserved : goal.loop-h-preserved
+loop-h-preserved c =
+    let way = c.loop-h.invariant.2 in (
+      omega arith,
+      omega arith,
+      half_more c.args.start.number c.loop-h.-h c.loop-h.node.number c.parent-node.result.number way c.parent-node.ensures,
+      ap (map key_in) c.push-reserved.ensures.items
+          ∙ one_sibling c.args.start.number c.loop-h.-h c.args.numbers.now.0 (vec_items c.loop-h.nodes) c.node-of.result c.loop-h.invariant.3
+          (c.node-of.ensures
+          ∙ ap keyed (c.of.ensures ∙ ap (λ (n : ℕ). get_or c.args.numbers.now.0 n None) (c.sibling.ensures ∙ ap sibling_of way))),
+    )

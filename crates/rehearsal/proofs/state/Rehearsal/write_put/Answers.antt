@@ -1,0 +1,25 @@
+use Rattle.std.proofs.Common.{◌≡◌, ℕ, map, Some, vec_items, ap, ◌∙◌}
+use Rattle.sealing.specs.declared.key.Key.{Key}
+use Rattle.std.proofs.lemmas.Result.{IfOk-from_err}
+use Rattle.change.specs.Nodes.{key_in}
+use Rattle.rehearsal.specs.Siblings.{siblings_of}
+use Rattle.rehearsal.proofs.Recording.{recorded}
+use Rattle.rehearsal.proofs.state.Rehearsal.write_put.Goals as goal
+
+pub returns-in-err-given : goal.returns-in-err-given
+returns-in-err-given c = IfOk-from_err c.from-residual-in-err-given.result _ c.from-residual-in-err-given.ensures.0
+
+pub returns-in-err-root : goal.returns-in-err-root
+returns-in-err-root c = IfOk-from_err c.from-residual-in-err-root.result _ c.from-residual-in-err-root.ensures.0
+
+pub returns : goal.returns
+returns c =
+    let told = c.in-ok-root.ensures in
+    let given = c.in-ok-given.ensures in (
+      told.1,
+      recorded c.args.levels c.args.place c.args.self.now.last (Some c.args.content.now) c.deref.result.now c.deref-2.result.now c.args.self.now.numbers.0 (vec_items c.args.out.now) (vec_items c.put-root.new.out)
+          (ap (map (λ (k : Key). k.bytes)) c.deref.ensures.value ∙ given.2)
+          (ap (map key_in) c.deref-2.ensures.value ∙ given.1 ∙ ap (λ (n : ℕ). siblings_of n c.args.self.now.numbers.0 c.args.levels) c.requires.0)
+          c.requires.1.0
+          told.2,
+    )
