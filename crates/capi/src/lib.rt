@@ -1,4 +1,6 @@
 // Sealing and opening for programs in C and Rust. Each call takes its working memory from the heap; false also where there is none.
+#![tactic(auto)]
+
 ghost use Rattle.capi.specs.Calls.{Sealed, Opened};
 
 use sealing::aead::{open, seal};

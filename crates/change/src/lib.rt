@@ -1,4 +1,6 @@
 // One change of one place, as records: the keys that it draws, and what it writes.
+#![tactic(auto)]
+
 pub mod change;
 mod check;
 mod climb;

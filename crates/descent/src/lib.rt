@@ -1,4 +1,6 @@
 // Going down from the chip's key: reading what the medium has along a path, and opening it.
+#![tactic(auto)]
+
 pub mod failure;
 pub mod part;
 pub mod path;

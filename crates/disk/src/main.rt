@@ -1,4 +1,6 @@
 // Writes to a medium and a chip on files, opens them again, and says what they hold.
+#![tactic(auto)]
+
 use anyhow::anyhow;
 use devices::chip::{Chip, Replaced};
 use devices::fault::Fault;

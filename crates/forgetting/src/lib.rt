@@ -1,4 +1,6 @@
 // The law between one change and any run of changes, and what follows for histories of changes. These functions do nothing: their contracts are the theorems.
+#![tactic(auto)]
+
 ghost use Rattle.forgetting.specs.Lawful.{ChangeLawful};
 ghost use Rattle.forgetting.specs.History.{KeyWhileHeld, KeysApart, UnderLater, ReadsAll, SingleDraws, SingleSets};
 ghost use Rattle.forgetting.specs.Cases.{Cases};

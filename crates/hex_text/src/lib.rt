@@ -1,4 +1,6 @@
 // Byte strings as hex: either case is read, lower case is written.
+#![tactic(auto)]
+
 ghost use Rattle.std.specs.Prelude.{◌≡◌, ◌<◌, ◌++◌, IfOk, vec_items, string_bytes, OnOk};
 ghost use Rattle.hex_text.specs.Hex.{digit as digitOf, byte as byte_of, decode as decoded};
 ghost use Rattle.hex_text.specs.Hex.{letter as letterOf, pair, encode as encoded, Decodes-again};

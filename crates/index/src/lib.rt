@@ -1,4 +1,6 @@
 // The index of a medium: where it has what each node and each place has now. Numbers and offsets, and no key.
+#![tactic(auto)]
+
 ghost use Rattle.std.specs.Prelude.{◌≡◌, ℕ, ◌+◌, ◌-◌, ◌^◌, ◌<◌, ◌≤◌, cond, List, length, replicate, IfOk, vec_len, slice_set};
 ghost use Rattle.records.specs.Values.{record_of};
 ghost use Rattle.index.specs.Rows.{key_row, content_row, Empty};

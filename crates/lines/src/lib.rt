@@ -1,4 +1,6 @@
 // The line language: one command a line, one answer a line.
+#![tactic(auto)]
+
 ghost use Rattle.std.specs.Prelude.{◌≡◌, IfOk, string_bytes};
 ghost use Rattle.lines.specs.Fields.{written_of};
 

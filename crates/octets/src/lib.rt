@@ -1,4 +1,6 @@
 // Bytes and the numbers that they write; buffers cleared to zeros.
+#![tactic(auto)]
+
 ghost use Rattle.std.specs.Prelude.{◌≡◌, ℕ, ◌+◌, ◌<◌, ◌≤◌, List, ◌++◌, length, take, drop, replicate};
 ghost use Rattle.octets.specs.Endian.{le, le_bytes};
 

@@ -1,4 +1,6 @@
 // What can be opened from the records of a run as they stand on the medium. These functions do nothing: their contracts are the theorems.
+#![tactic(auto)]
+
 ghost use Rattle.openable.specs.OnBytes.{RecordsOpen, RecordsOpenNoMore, StoodOpens, NothingElse, TransparentFaithful, RuleOnBytes};
 
 // What opens of all that was written opens from its records, for every way of sealing; and nothing else does, for those in which a sealed text tells its key and its text.

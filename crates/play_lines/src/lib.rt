@@ -1,4 +1,6 @@
 // The line language: one command a line, one answer a line.
+#![tactic(auto)]
+
 pub mod texts;
 
 use fields::faults::Failure;

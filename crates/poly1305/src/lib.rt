@@ -1,4 +1,6 @@
 // The one-time authenticator Poly1305 of RFC 8439, section 2.5.
+#![tactic(auto)]
+
 ghost use Rattle.std.specs.Prelude.{◌≡◌, ◌+◌, ◌-◌, ◌*◌, ◌/◌, ◌%◌, ◌^◌, ◌∷◌, ◌++◌, length, take, drop, replicate, bit_and};
 ghost use Rattle.octets.specs.Endian.{le, le_bytes};
 ghost use Rattle.poly1305.specs.Poly1305.{prime, clamp, absorb_all, blocks, padded, mac};
@@ -8,8 +10,8 @@ ghost use Rattle.poly1305.specs.State.{accumulator, multiplier, added, Idle};
 mod limbs;
 mod state;
 
-use octets::u64_at;
 use limbs::Limbs;
+use octets::u64_at;
 pub use state::Poly1305;
 
 const BLOCK: usize = 16;

@@ -1,4 +1,6 @@
 // What holds of decoding and encoding. The functions compute nothing: their contracts are the theorems.
+#![tactic(auto)]
+
 ghost use Rattle.record_laws.specs.Laws.{DecodesEncoded, EncodesDecoded, TornEnds};
 
 // What was encoded decodes to itself and the rest.

@@ -1,4 +1,6 @@
 // Answers the lines of standard input, one answer a line.
+#![tactic(auto)]
+
 use lines::answer;
 use lines::tasks::Work;
 use std::alloc::Global;

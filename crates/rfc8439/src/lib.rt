@@ -1,4 +1,6 @@
 // The definitions of sealing held against the standard's own worked values, and the round trip. These functions do nothing: their contracts are the theorems.
+#![tactic(auto)]
+
 ghost use Rattle.rfc8439.specs.Values.{Values};
 ghost use Rattle.sealing.specs.Aead.{RoundTrip};
 

@@ -1,4 +1,6 @@
 // What can be opened of any run of changes, power cuts and looks into the chip. These functions do nothing: their contracts are the theorems.
+#![tactic(auto)]
+
 ghost use Rattle.runs.specs.Rule.{Rule, HeldAtPlaces, LooksFrom};
 ghost use Rattle.runs.specs.Consequences.{Forgotten, Replaced, PutAfterLastLook, Once, KeysDrawn, Emptied, ReadsAll, BeforeOrAfter, AnsweredStays, OfHistory, Finishes, OnePlace};
 ghost use Rattle.runs.specs.Cases.{Cases, Reused};

@@ -1,4 +1,6 @@
 // Commands that seal and open, and those on the parts of the standard, and the words that they are read from.
+#![tactic(auto)]
+
 ghost use Rattle.std.specs.Prelude.{◌≡◌, ◌<◌, [], map, length, slice_index_or};
 ghost use Rattle.fields.specs.Fields.{fixed_of, Reads};
 ghost use Rattle.fields.specs.declared.faults.Failure.TheVariants as fails;

@@ -1,4 +1,6 @@
 // Carrying the commands out.
+#![tactic(auto)]
+
 ghost use Rattle.std.specs.Prelude.{◌≡◌, vec_items};
 ghost use Rattle.seal_tasks.specs.Runs.{Answered};
 ghost use Rattle.seal_tasks.specs.Tasks.{Sealed, Opened, Blocked, Streamed, Given, Marked};

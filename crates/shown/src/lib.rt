@@ -1,4 +1,6 @@
 // A medium and the tree that it shows. These functions do nothing: their contracts are the theorems.
+#![tactic(auto)]
+
 ghost use Rattle.shown.specs.Theorems.{StepsDown, GoesThrough, SiblingAt, ReadsShown, PathShown, EmptyShows, ChangeKeeps, Scans, ScannedShows};
 
 // What hangs where, by the numbers of nodes.

@@ -1,4 +1,6 @@
 // One key with its number, on the heap: replaced in place, and wiped before its memory is given back.
+#![tactic(auto)]
+
 ghost use Rattle.std.specs.Prelude.{◌≡◌, length, replicate, IfOk, box_value};
 
 use sealing::key::Key;

@@ -1,4 +1,6 @@
 // The store: contents in places, over a medium and a chip.
+#![tactic(auto)]
+
 pub mod calls;
 mod commit;
 pub mod life;

@@ -1,4 +1,6 @@
 // A store on two files, `medium` and `chip`, or on those that the arguments name: a command a line, an answer a line.
+#![tactic(auto)]
+
 use anyhow::anyhow;
 use files::chip::FileChip;
 use files::medium::FileMedium;

@@ -1,4 +1,6 @@
 // The tree over the places, by node numbers; and what calls answer.
+#![tactic(auto)]
+
 pub mod answer;
 pub mod node;
 pub mod numbers;

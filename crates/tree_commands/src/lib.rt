@@ -1,4 +1,6 @@
 // Commands on a play on a small store, which lasts from line to line.
+#![tactic(auto)]
+
 use descent::failure::Failure as Unmade;
 use fields::faults::{Failure, Malformed, Refusal};
 use fields::field::Field;

@@ -1,4 +1,6 @@
 // The words of a line, and the numbers that they write.
+#![tactic(auto)]
+
 ghost use Rattle.std.specs.Prelude.{◌≡◌, [], map, IfOk};
 ghost use Rattle.words.specs.Words.{blank, bare, onward, words_of};
 
