@@ -5,7 +5,7 @@ use Rattle.hex_text.proofs.encode.Goals as goal
 
 pub loop-byte-preserved : goal.loop-byte-preserved
 loop-byte-preserved c =
-    encode_more c.args.bytes.now c.loop-byte.byte-index (string_bytes c.loop-byte.text) (string_bytes c.push-byte.new.text) c.loop-byte-test.true c.in-ok-push-byte.ensures c.loop-byte.invariant
+    encode_more c.args.bytes.now c.loop-byte.byte-index (string_bytes c.loop-byte.text) (string_bytes c.push_byte.new.text) c.loop-byte-test.true c.in_ok-push_byte.ensures c.loop-byte.invariant
 
 pub returns : goal.returns
 returns c =

@@ -7,5 +7,5 @@ use Rattle.octets.proofs.put_u32.Goals as goal
 pub returns : goal.returns
 returns c =
     let k : c.args.at + 4 - c.args.at ≡ 4 = omega arith in
-    let e = c.copy-from-slice.ensures.after ∙ c.to-le-bytes.ensures ∙ four_bytes c.args.word in
+    let e = c.copy_from_slice.ensures.after ∙ c.to_le_bytes.ensures ∙ four_bytes c.args.word in
     rw (k, e, drop-drop 4 c.args.at c.args.out.now)

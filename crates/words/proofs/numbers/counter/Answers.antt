@@ -10,7 +10,7 @@ returns-in-err-number c =
 pub loop-letter-preserved : goal.loop-letter-preserved
 loop-letter-preserved c =
     let letter = get_or c.args.text.now c.loop-letter.letter-index 0 in
-    let is = c.in-ok-number.ensures in
+    let is = c.in_ok-number.ensures in
     (in_grown c.loop-letter.number letter _ is, turn c.args.text.now c.loop-letter.letter-index c.loop-letter.number _ _ c.loop-letter-test.true c.loop-letter.invariant.1 is)
 
 pub returns : goal.returns
