@@ -2,10 +2,10 @@ use Rattle.std.proofs.Common.{get_or, ◌∙◌}
 use Rattle.words.proofs.Digits.{turn, in_grown, ends}
 use Rattle.words.proofs.numbers.counter.Goals as goal
 
-pub returns-in-err-number : goal.returns-in-err-number
-returns-in-err-number c =
-    c.from-residual.ensures
-    ∙ turn c.args.text.now c.loop-letter.letter-index c.loop-letter.number _ _ c.loop-letter-test.true c.loop-letter.invariant.1 c.in-err-number.ensures
+pub returns-in_err-number : goal.returns-in_err-number
+returns-in_err-number c =
+    c.from_residual.ensures
+    ∙ turn c.args.text.now c.loop-letter.letter-index c.loop-letter.number _ _ c.loop-letter-test.true c.loop-letter.invariant.1 c.in_err-number.ensures
 
 pub loop-letter-preserved : goal.loop-letter-preserved
 loop-letter-preserved c =
