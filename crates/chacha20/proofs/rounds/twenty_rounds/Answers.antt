@@ -12,5 +12,5 @@ loop-i-preserved c = rw add-one (cc)
 
 pub returns : goal.returns
 returns c =
-    let e : c.loop-i.-i ≡ 10 = omega arith in
+    let e : c.loop-i._i ≡ 10 = omega arith in
     let f = ap (λ n. double_rounds n c.args.s.now) e in cc

@@ -4,4 +4,4 @@ use Rattle.chacha20.specs.ChaCha20.{output, serialize}
 
 pub returns : goal.returns
 unfolding output
-returns c = record { block = c.serialize-into.ensures ∙ ap serialize c.mix.ensures; input = search rules }
+returns c = record { block = c.serialize_into.ensures ∙ ap serialize c.mix.ensures; input = search rules }

@@ -15,12 +15,12 @@ returns c =
           elim c.if-part-ne0.branch [
             | then-part-ne0 w ↦
                 ap (λ x. value x % prime) w.acc-is
-                ∙ last_padded (multiplier s) (accumulator s) (value c.absorb-whole-acc.result) (value w.absorb-acc.result) _
-                w.u64-at.result w.u64-at-then-part-ne0.result _ m w.last-block-block.result (omega arith)
-                (omega arith) w.last-block-block.ensures w.u64-at.ensures w.u64-at-then-part-ne0.ensures (omega arith)
-                c.absorb-whole-acc.ensures.value w.absorb-acc.ensures.value
+                ∙ last_padded (multiplier s) (accumulator s) (value c.absorb_whole-acc.result) (value w.absorb-acc.result) _
+                w.u64_at.result w.u64_at-then-part-ne0.result _ m w.last_block-block.result (omega arith)
+                (omega arith) w.last_block-block.ensures w.u64_at.ensures w.u64_at-then-part-ne0.ensures (omega arith)
+                c.absorb_whole-acc.ensures.value w.absorb-acc.ensures.value
             | else-part-ne0 w ↦
-                ap (λ x. value x % prime) w.acc-is ∙ c.absorb-whole-acc.ensures.value
+                ap (λ x. value x % prime) w.acc-is ∙ c.absorb_whole-acc.ensures.value
                 ∙ ap (λ n. absorb_all (multiplier s) (accumulator s) n m) (blocks-whole m w.if-part-ne0.false)
                 ∙ ap (absorb_all (multiplier s) (accumulator s) (blocks (length m))) (sym (padded-whole m w.if-part-ne0.false))
           ];

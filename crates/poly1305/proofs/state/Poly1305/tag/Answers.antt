@@ -6,4 +6,4 @@ use Rattle.poly1305.proofs.state.Poly1305.tag.Goals as goal
 pub returns : goal.returns
 returns c =
     let s = c.args.self.now in
-    tag-bytes c.to-le-bytes.result c.reduced.result _ (accumulator s) (added s) c.to-le-bytes.ensures c.reduced.ensures (omega arith)
+    tag-bytes c.to_le_bytes.result c.reduced.result _ (accumulator s) (added s) c.to_le_bytes.ensures c.reduced.ensures (omega arith)

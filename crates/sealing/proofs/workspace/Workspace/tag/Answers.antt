@@ -9,14 +9,14 @@ returns c =
     record {
       tag =
           c.finish.ensures.tag
-          ∙ tag_parts c.args.key.now c.args.nonce.now c.args.marked.now c.args.sealed.now _ _ _ c.begin-mark.ensures.multiplier
-          (c.absorb-text.ensures.accumulator ∙ ap (λ a. absorbed_text (multiplier c.begin-mark.new.self.mark) a c.args.marked.now c.args.sealed.now) c.begin-mark.ensures.accumulator)
-          (c.absorb-text.ensures.added ∙ c.begin-mark.ensures.added);
+          ∙ tag_parts c.args.key.now c.args.nonce.now c.args.marked.now c.args.sealed.now _ _ _ c.begin_mark.ensures.multiplier
+          (c.absorb_text.ensures.accumulator ∙ ap (λ a. absorbed_text (multiplier c.begin_mark.new.self.mark) a c.args.marked.now c.args.sealed.now) c.begin_mark.ensures.accumulator)
+          (c.absorb_text.ensures.added ∙ c.begin_mark.ensures.added);
       wiped =
           record {
-            stream_zero = c.absorb-text.ensures.stream ∙ c.begin-mark.ensures.stream;
+            stream_zero = c.absorb_text.ensures.stream ∙ c.begin_mark.ensures.stream;
             mark_zero = c.finish.ensures.wiped;
-            block_zero = c.absorb-text.ensures.block ∙ c.begin-mark.ensures.block;
-            once_zero = c.absorb-text.ensures.once ∙ c.begin-mark.ensures.once;
+            block_zero = c.absorb_text.ensures.block ∙ c.begin_mark.ensures.block;
+            once_zero = c.absorb_text.ensures.once ∙ c.begin_mark.ensures.once;
           };
     }
