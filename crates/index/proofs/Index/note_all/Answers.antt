@@ -9,8 +9,8 @@ note-requires c =
     let s = decoded_shorter c.args.levels c.loop-record.left.now c.requires.0 (record_of c.in-One.record) c.in-One.rest.now c.in-One.ensures in
     (c.requires.0, (omega arith, s.1))
 
-pub overflow-sub-from : goal.overflow-sub-from
-overflow-sub-from c =
+pub overflow_sub-from : goal.overflow_sub-from
+overflow_sub-from c =
     let s = (decoded_shorter c.args.levels c.loop-record.left.now c.requires.0 (record_of c.in-One.record) c.in-One.rest.now c.in-One.ensures).0 in
     omega arith
 
@@ -28,5 +28,5 @@ loop-record-preserved c =
 
 pub returns : goal.returns
 returns c =
-    let n = decoded_none c.args.levels c.loop-record.left.now c.requires.0 c.decode.result c.in-default.not-One c.decode.ensures in
+    let n = decoded_none c.args.levels c.loop-record.left.now c.requires.0 c.decode.result c.in_default.not-One c.decode.ensures in
     sym (scanned-end c.args.levels c.loop-record.from c.loop-record.left.now (rows_of c.loop-record.self) n) ∙ c.loop-record.invariant.0

@@ -3,4 +3,4 @@ use Rattle.records.proofs.decode.four.Goals as goal
 
 pub returns : goal.returns
 unfolding number4
-returns c = c.from-be-bytes.ensures
+returns c = c.from_be_bytes.ensures

@@ -8,18 +8,18 @@ returns-in-Key c =
     let w = c.in-Key in
     let e = encode-key w.node w.number w.under w.sealed.now in
     let i = ap record_of w.is in
-    cc c.encode-key.ensures
+    cc c.encode_key.ensures
 
 pub returns-in-Content : goal.returns-in-Content
 returns-in-Content c =
     let w = c.in-Content in
     let e = encode-content w.node w.number w.sealed.now in
     let i = ap record_of w.is in
-    cc c.encode-content.ensures
+    cc c.encode_content.ensures
 
 pub returns-in-Out : goal.returns-in-Out
 returns-in-Out c =
     let w = c.in-Out in
     let e = encode-out w.node w.next in
     let i = ap record_of w.is in
-    cc c.encode-out.ensures
+    cc c.encode_out.ensures

@@ -3,4 +3,4 @@ use Rattle.records.proofs.encode.four.Goals as goal
 
 pub returns : goal.returns
 unfolding be4
-returns c = c.to-be-bytes.ensures
+returns c = c.to_be_bytes.ensures
