@@ -209,7 +209,7 @@ module _ {K C : Type 0} where
     module _ (rs : List (Tree K C)) (known : (r : Tree K C) → Memᴰ r rs → Known d s r) (c : C) where
       pub opens-only : Opens (map (chip_key z) rs) s.written c → (r : Tree K C) × Memᴰ r rs × Stands d r c
       opens-only o =
-          let f = only-held z s.written (λ w m. g.good.no-zeros w (Memᴰ.append_left (left_of s.pending) m)) rs
+          let f = only-held z s.written (λ w m. g.good.no_zeros w (Memᴰ.append_left (left_of s.pending) m)) rs
           (λ r m. ((known r m).0.0, λ u os n w q i. ((known r m).0.1 u os n).only w q (Memᴰ.append_left (left_of s.pending) i))) c o in
           (f.0, f.1, holds-stands d f.0 c (known f.0 f.1).1 f.2)
 

@@ -79,8 +79,8 @@ module _ {K C : Type 0} where
           next = tt;
           seen = λ r m. let o = g.seen r m in (o.0, moved o.0 ks (ws ++ left_of p) (ws ++ []) ws ws sub (λ x i. i) r o.1);
           unders = λ w m. g.unders w (sub w m);
-          zeros_drawn = g.zeros-drawn;
-          no_zeros = λ w m. g.no-zeros w (sub w m);
+          zeros_drawn = g.zeros_drawn;
+          no_zeros = λ w m. g.no_zeros w (sub w m);
           once = λ v w a b. g.once v w (sub v a) (sub w b);
         }
       where
@@ -96,8 +96,8 @@ module _ {K C : Type 0} where
           next = made at ks js ws (things left) t t' un new lawful (old at t g.now);
           seen = λ r m. let o = g.seen r m in (o.0, grown o.0 ks js ws (things left) us new r (old o.0 r o.1));
           unders = λ w m. in_joined ws m (λ x. Memᴰ.append_right js (un w x)) (λ x. Memᴰ.append_left ks (us w x));
-          zeros_drawn = Memᴰ.append_right js g.zeros-drawn;
-          no_zeros = λ w m e. in_joined ws m (λ x. g.no-zeros w (sub w x) e) (λ x. new (under w) (us w x) (Memᴰ.cast e g.zeros-drawn));
+          zeros_drawn = Memᴰ.append_right js g.zeros_drawn;
+          no_zeros = λ w m e. in_joined ws m (λ x. g.no_zeros w (sub w x) e) (λ x. new (under w) (us w x) (Memᴰ.cast e g.zeros_drawn));
           once = once-joined ks js ws (things left) un us new (λ v w a b. g.once v w (sub v a) (sub w b)) lawful.once;
         }
       where
@@ -121,8 +121,8 @@ module _ {K C : Type 0} where
           next = moved at ks (ws ++ things (r ∷ left)) ((ws ++ things (r ∷ [])) ++ things left) (ws ++ things (r ∷ left)) ((ws ++ things (r ∷ [])) ++ things left) back forth t' g.next;
           seen = λ x m. let o = g.seen x m in (o.0, carry o.0 x o.1);
           unders = λ w m. g.unders w (back w m);
-          zeros_drawn = g.zeros-drawn;
-          no_zeros = λ w m. g.no-zeros w (back w m);
+          zeros_drawn = g.zeros_drawn;
+          no_zeros = λ w m. g.no_zeros w (back w m);
           once = λ v w a b. g.once v w (back v a) (back w b);
         }
       where
@@ -146,8 +146,8 @@ module _ {K C : Type 0} where
           next = tt;
           seen = g.seen;
           unders = g.unders;
-          zeros_drawn = g.zeros-drawn;
-          no_zeros = g.no-zeros;
+          zeros_drawn = g.zeros_drawn;
+          no_zeros = g.no_zeros;
           once = g.once;
         }
 
@@ -159,14 +159,14 @@ module _ {K C : Type 0} where
           next = g.next;
           seen = λ r m. in_cons m (λ e. (at, subst (λ (x : Tree K C). Each at (At ks (ws ++ left_of p) ws) x) (sym e) g.now)) (g.seen r);
           unders = g.unders;
-          zeros_drawn = g.zeros-drawn;
-          no_zeros = g.no-zeros;
+          zeros_drawn = g.zeros_drawn;
+          no_zeros = g.no_zeros;
           once = g.once;
         }
 
     -- Looks are left out.
     pub good_unread : (p : Pending K C) → Good at z t p ws ks rs → Good at z t p ws ks []
-    good_unread p g = record { now = g.now; next = g.next; seen = λ r m. in_none m; unders = g.unders; zeros_drawn = g.zeros-drawn; no_zeros = g.no-zeros; once = g.once }
+    good_unread p g = record { now = g.now; next = g.next; seen = λ r m. in_none m; unders = g.unders; zeros_drawn = g.zeros_drawn; no_zeros = g.no_zeros; once = g.once }
 
 -- The empty store.
 pub good_empty : {K C : Type 0} (at : Node) (z : K) → Good {K = K} {C = C} at z bare idle [] (z ∷ []) []

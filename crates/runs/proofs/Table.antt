@@ -92,11 +92,11 @@ some_holds : List (Tree ℕ ℕ) → ℕ → Bool
 some_holds [] c = false
 some_holds (t ∷ ts) c = holds c t || some_holds ts c
 
-some_holds : (ts : List (Tree ℕ ℕ)) (c : ℕ) → some_holds ts c ≡ true → (t : Tree ℕ ℕ) × Memᴰ t ts × Holds t c
+some_holds_lem : (ts : List (Tree ℕ ℕ)) (c : ℕ) → some_holds ts c ≡ true → (t : Tree ℕ ℕ) × Memᴰ t ts × Holds t c
 unfolding some_holds
-some_holds [] c e = absurd (both_ways false refl e)
-some_holds (t ∷ ts) c e =
-    either (or_cases (holds c t) (some_holds ts c) e) (λ i. (t, Memᴰ.head refl, does_hold c t i)) (λ i. let o = some_holds ts c i in (o.0, Memᴰ.tail o.1, o.2))
+some_holds_lem [] c e = absurd (both_ways false refl e)
+some_holds_lem (t ∷ ts) c e =
+    either (or_cases (holds c t) (some_holds ts c) e) (λ i. (t, Memᴰ.head refl, does_hold c t i)) (λ i. let o = some_holds_lem ts c i in (o.0, Memᴰ.tail o.1, o.2))
 
 none_holds : (ts : List (Tree ℕ ℕ)) (c : ℕ) → some_holds ts c ≡ false → (t : Tree ℕ ℕ) → Memᴰ t ts → Holds t c → ⊥
 unfolding some_holds
@@ -139,7 +139,7 @@ fits_meets r e written =
       records = written;
       chip = eqb-true (chip_key 0 (at_end r).tree) r.chip u.0;
       opens = λ c m.
-          let o = some_holds ts c (of_each (some_holds ts) r.opens v.0 c m) in
+          let o = some_holds_lem ts c (of_each (some_holds ts) r.opens v.0 c m) in
           (rule ℕ ℕ 2 0 (acts_of r) a ts (λ x i. i) c).1 (o.0, o.1, holds-stands 2 o.0 c (seen_known 2 0 (at_end r) (sound_allowed 2 0 (acts_of r) a) o.0 o.1).1 o.2);
       shut = λ c m o.
           let s = (rule ℕ ℕ 2 0 (acts_of r) a ts (λ x i. i) c).0 o in
