@@ -13,6 +13,6 @@ returns c =
     record {
       value =
           opened-part c.args.key.now.bytes c.args.nonce.now.0 c.args.marked.now c.args.part.now (length c.args.part.now - 16 - 0) (omega arith) (omega arith)
-          c.open.result c.mark-at-mark.result.0 c.open.new.sealed (rw n c.mark-at-mark.ensures) (omega arith) c.open.ensures.value;
+          c.open.result c.mark_at-mark.result.0 c.open.new.sealed (rw n c.mark_at-mark.ensures) (omega arith) c.open.ensures.value;
       clear = c.open.ensures.wiped;
     }

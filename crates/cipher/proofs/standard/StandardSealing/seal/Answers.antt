@@ -8,7 +8,7 @@ use Rattle.cipher.proofs.standard.StandardSealing.seal.Goals as goal
 pub unreachable-requires : goal.unreachable-requires
 unfolding longest
 unreachable-requires c =
-    let h = c.in-default.ensures.value.0 in
+    let h = c.in_default.ensures.value.0 in
     omega (arith, length-take-le (length c.args.part.now - 16 - 0) c.args.part.now (omega arith))
 
 pub returns : goal.returns
