@@ -4,25 +4,25 @@ use Rattle.seal_commands.specs.Parsed.{stream}
 use Rattle.seal_commands.proofs.Steps.{reads, stops, later}
 use Rattle.seal_commands.proofs.stream_of.Goals as goal
 
-pub returns-in-err-key : goal.returns-in-err-key
-returns-in-err-key c =
-    let p = err_from_is_err_and c.from-residual.result c.from-residual.ensures.1 in
-    rw (p.1, p.2) (stops c.in-err-key.field-0.0 _ _ c.in-err-key.ensures)
+pub returns-in_err-key : goal.returns-in_err-key
+returns-in_err-key c =
+    let p = err_from_is_err_and c.from_residual.result c.from_residual.ensures.1 in
+    rw (p.1, p.2) (stops c.in_err-key.field-0.0 _ _ c.in_err-key.ensures)
 
-pub returns-in-err-counter : goal.returns-in-err-counter
-returns-in-err-counter c =
+pub returns-in_err-counter : goal.returns-in_err-counter
+returns-in_err-counter c =
     let p = err_from_is_err_and c.from-residual-in-err-counter.result c.from-residual-in-err-counter.ensures.1 in
-    rw (p.1, p.2) (later c.in-err-counter.field-0.0 (reads _ c.in-ok-key.ensures) (stops c.in-err-counter.field-0.0 _ _ c.in-err-counter.ensures))
+    rw (p.1, p.2) (later c.in-err-counter.field-0.0 (reads _ c.in_ok-key.ensures) (stops c.in-err-counter.field-0.0 _ _ c.in-err-counter.ensures))
 
-pub returns-in-err-nonce : goal.returns-in-err-nonce
-returns-in-err-nonce c =
+pub returns-in_err-nonce : goal.returns-in_err-nonce
+returns-in_err-nonce c =
     let p = err_from_is_err_and c.from-residual-in-err-nonce.result c.from-residual-in-err-nonce.ensures.1 in
-    rw (p.1, p.2) (later c.in-err-nonce.field-0.0 (reads _ c.in-ok-key.ensures ∙ reads _ c.in-ok-counter.ensures) (stops c.in-err-nonce.field-0.0 _ _ c.in-err-nonce.ensures))
+    rw (p.1, p.2) (later c.in-err-nonce.field-0.0 (reads _ c.in_ok-key.ensures ∙ reads _ c.in_ok-counter.ensures) (stops c.in-err-nonce.field-0.0 _ _ c.in-err-nonce.ensures))
 
-pub returns-in-err-content : goal.returns-in-err-content
-returns-in-err-content c =
+pub returns-in_err-content : goal.returns-in_err-content
+returns-in_err-content c =
     let p = err_from_is_err_and c.from-residual-in-err-content.result c.from-residual-in-err-content.ensures.1 in
-    rw (p.1, p.2) (later c.in-err-content.field-0.0 (reads _ c.in-ok-key.ensures ∙ reads _ c.in-ok-counter.ensures ∙ reads _ c.in-ok-nonce.ensures) (stops c.in-err-content.field-0.0 _ _ c.in-err-content.ensures))
+    rw (p.1, p.2) (later c.in-err-content.field-0.0 (reads _ c.in_ok-key.ensures ∙ reads _ c.in_ok-counter.ensures ∙ reads _ c.in_ok-nonce.ensures) (stops c.in-err-content.field-0.0 _ _ c.in-err-content.ensures))
 
 pub returns : goal.returns
-returns c = reads _ c.in-ok-key.ensures ∙ reads _ c.in-ok-counter.ensures ∙ reads _ c.in-ok-nonce.ensures ∙ reads _ c.in-ok-content.ensures ∙ ap (λ k. Ok (stream k c.in-ok-counter.counter c.in-ok-nonce.nonce.0 (vec_items c.in-ok-content.content))) (sym c.take.ensures.value)
+returns c = reads _ c.in_ok-key.ensures ∙ reads _ c.in_ok-counter.ensures ∙ reads _ c.in_ok-nonce.ensures ∙ reads _ c.in_ok-content.ensures ∙ ap (λ k. Ok (stream k c.in_ok-counter.counter c.in_ok-nonce.nonce.0 (vec_items c.in_ok-content.content))) (sym c.take.ensures.value)

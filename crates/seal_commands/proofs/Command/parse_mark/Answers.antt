@@ -6,4 +6,4 @@ pub returns-then-fields-ne2 : goal.returns-then-fields-ne2
 returns-then-fields-ne2 c = rw c.miscounted.ensures (miscounts 2 c.args.fields.now _ c.if-fields-ne2.true)
 
 pub returns : goal.returns
-returns c = counts 2 c.args.fields.now c.mark-of.result _ _ c.if-fields-ne2.false (two c.field.ensures c.field-2.ensures mark_of) c.mark-of.ensures
+returns c = counts 2 c.args.fields.now c.mark_of.result _ _ c.if-fields-ne2.false (two c.field.ensures c.field-2.ensures mark_of) c.mark_of.ensures
