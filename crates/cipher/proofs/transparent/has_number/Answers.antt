@@ -5,4 +5,6 @@ use Rattle.cipher.proofs.transparent.has_number.Goals as goal
 use Rattle.std.proofs.lemmas.Bool.Decides.{Decides-eqb}
 
 pub returns : goal.returns
-returns c = rw (take_rest c.args.part.now c.args.at) at (slice_eq-Decides Decides-eqb _ _ _ c.eq.ensures)
+returns c =
+    let s = c.args.part.now in
+    rw (take_rest s c.args.at) at (slice_eq-Decides Decides-eqb (take (length s - c.args.at) (drop c.args.at s)) (take 16 c.args.key.now) c.eq.result c.eq.ensures)

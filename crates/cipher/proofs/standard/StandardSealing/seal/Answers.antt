@@ -19,7 +19,7 @@ returns c =
     let v = c.in-Ok.ensures.value in
     record {
       value =
-          written_last c.seal-sealed.new.text _ c.copy-from-slice.new.self (length c.args.part.now - 16) (omega arith)
-          ∙ rw (v.1, c.copy-from-slice.ensures.after, v.2, n);
+          written_last c.seal-sealed.new.text _ c.copy_from_slice.new.self (length c.args.part.now - 16) (omega arith)
+          ∙ rw (v.1, c.copy_from_slice.ensures.after, v.2, n);
       clear = c.in-Ok.ensures.wiped;
     }
