@@ -31,7 +31,7 @@ fn write_put<S: Sealing>(
     out: &mut Vec<u8>,
 ) -> Result<(), AllocError>
     requires { (levels < length keys.now) × ((last + 2 + levels < 2 ^ 32) × ((levels ≤ length siblings.now) × ((length content.now ≤ 4096) × (4112 ≤ length room.old)))) }
-    ensures { Extends result out.old.items (encoded (coded_content sealed node.number 0 (drawn_key last keys.now 0) content.now) ++ turns_bytes sealed node.number 1 last keys.now siblings.now levels) out.new.items }
+    ensures { Extends result out.old.items (encoded (coded_content S.sealed node.number 0 (drawn_key last keys.now 0) content.now) ++ turns_bytes S.sealed node.number 1 last keys.now siblings.now levels) out.new.items }
 {
     let n = content.len() + 16;
     push_content(
@@ -58,7 +58,7 @@ fn write_out<S: Sealing>(
     out: &mut Vec<u8>,
 ) -> Result<(), AllocError>
     requires { (levels ≤ length keys.now) × ((last + 1 + levels < 2 ^ 32) × (levels ≤ length siblings.now)) }
-    ensures { Extends result out.old.items (encoded (outRecord node.number (last + 1)) ++ turns_bytes sealed node.number 0 last keys.now siblings.now levels) out.new.items }
+    ensures { Extends result out.old.items (encoded (outRecord node.number (last + 1)) ++ turns_bytes S.sealed node.number 0 last keys.now siblings.now levels) out.new.items }
 {
     push_out(node, last + 1, out)?;
     climb(cipher, node, levels, 0, keys, last, siblings, part, out)
@@ -78,7 +78,7 @@ pub fn put<S: Sealing>(
     out: &mut Vec<u8>,
 ) -> Result<u32, Failure>
     requires { (levels ≤ length siblings.now) × (4112 ≤ length room.old) }
-    ensures { Writes sealed levels place (Some content.now) keys.now last siblings.now out.old.items result out.new.items }
+    ensures { Writes S.sealed levels place (Some content.now) keys.now last siblings.now out.old.items result out.new.items }
 {
     let node = match check_put(levels, place, content, keys.len(), last) {
         Ok(node) => node,
@@ -116,7 +116,7 @@ pub fn take_out<S: Sealing>(
     out: &mut Vec<u8>,
 ) -> Result<u32, Failure>
     requires { levels ≤ length siblings.now }
-    ensures { Writes sealed levels place None keys.now last siblings.now out.old.items result out.new.items }
+    ensures { Writes S.sealed levels place None keys.now last siblings.now out.old.items result out.new.items }
 {
     let node = match check_out(levels, place, keys.len(), last) {
         Ok(node) => node,
@@ -155,7 +155,7 @@ pub fn put_and_hand_over<S: Sealing>(
     root: &mut Key,
 ) -> Result<u32, Failure>
     requires { (levels ≤ length siblings.now) × (4112 ≤ length room.old) }
-    ensures writes { Writes sealed levels place (Some content.now) keys.old last siblings.now out.old.items result out.new.items }
+    ensures writes { Writes S.sealed levels place (Some content.now) keys.old last siblings.now out.old.items result out.new.items }
     ensures leaves { Leaves levels keys.old root.old result keys.new root.new }
     ensures part { part.new ≡ replicate 48 0 }
     ensures room { room.new ≡ replicate (length room.old) 0 }
@@ -186,7 +186,7 @@ pub fn take_out_and_hand_over<S: Sealing>(
     root: &mut Key,
 ) -> Result<u32, Failure>
     requires { (1 ≤ levels) × (levels ≤ length siblings.now) }
-    ensures writes { Writes sealed levels place None keys.old last siblings.now out.old.items result out.new.items }
+    ensures writes { Writes S.sealed levels place None keys.old last siblings.now out.old.items result out.new.items }
     ensures leaves { Leaves (levels - 1) keys.old root.old result keys.new root.new }
     ensures part { part.new ≡ replicate 48 0 }
 {

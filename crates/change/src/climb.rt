@@ -22,7 +22,7 @@ fn push_below<S: Sealing>(
     out: &mut Vec<u8>,
 ) -> Result<(), AllocError>
     requires { (j < length keys.now) × (last + 1 + j < 2 ^ 32) }
-    ensures { out.new.items ≡ (if is_ok result then out.old.items ++ key_bytes sealed node.number (node.number % 2) (drawn_key last keys.now j) (drawn_before last keys.now j) else out.old.items) }
+    ensures { out.new.items ≡ (if is_ok result then out.old.items ++ key_bytes S.sealed node.number (node.number % 2) (drawn_key last keys.now j) (drawn_before last keys.now j) else out.old.items) }
 {
     if j == 0 {
         return Ok(());
@@ -52,7 +52,7 @@ fn push_both<S: Sealing>(
     out: &mut Vec<u8>,
 ) -> Result<(), AllocError>
     requires { (j < length keys.now) × (last + 1 + j < 2 ^ 32) }
-    ensures { Extends result out.old.items (turn_bytes sealed node.number last keys.now j (key_in sibling.now)) out.new.items }
+    ensures { Extends result out.old.items (turn_bytes S.sealed node.number last keys.now j (key_in sibling.now)) out.new.items }
 {
     push_below(cipher, node, j, keys, last, part, out)?;
     let under = last + 1 + j as u32;
@@ -72,7 +72,7 @@ pub(crate) fn climb<S: Sealing>(
     out: &mut Vec<u8>,
 ) -> Result<(), AllocError>
     requires { (levels + first ≤ length keys.now) × ((last + 1 + levels + first < 2 ^ 32) × (levels ≤ length siblings.now)) }
-    ensures { Extends result out.old.items (turns_bytes sealed start.number first last keys.now siblings.now levels) out.new.items }
+    ensures { Extends result out.old.items (turns_bytes S.sealed start.number first last keys.now siblings.now levels) out.new.items }
 {
     let mut node = start;
     for h in 0..levels {

@@ -30,8 +30,8 @@ fn seal_key<S: Sealing>(
     key: &Key,
     part: &mut [u8; 48],
 )
-    ensures value { part.new ≡ sealed above.now.bytes (slot_nonce slot) marked.now key.now.bytes }
-    ensures clear { clear cipher.new }
+    ensures value { part.new ≡ S.sealed above.now.bytes (slot_nonce slot) marked.now key.now.bytes }
+    ensures clear { S.clear cipher.new }
 {
     place_key(key.as_bytes(), part);
     cipher.seal(above, &slot_nonce(slot), marked, part);
@@ -48,8 +48,8 @@ pub(crate) fn push_key<S: Sealing>(
     part: &mut [u8; 48],
     out: &mut Vec<u8>,
 ) -> Result<(), AllocError>
-    ensures out { out.new.items ≡ (if is_ok result then out.old.items ++ encoded (coded_key sealed node.number (node.number % 2) (record { number = under; bytes = above.now.bytes }) (record { number = number; bytes = key.now.bytes })) else out.old.items) }
-    ensures clear { clear cipher.new }
+    ensures out { out.new.items ≡ (if is_ok result then out.old.items ++ encoded (coded_key S.sealed node.number (node.number % 2) (record { number = under; bytes = above.now.bytes }) (record { number = number; bytes = key.now.bytes })) else out.old.items) }
+    ensures clear { S.clear cipher.new }
 {
     let marked = header(KEY, node.number, number);
     seal_key(cipher, above, node.side().slot(), &marked, key, part);
@@ -74,7 +74,7 @@ pub(crate) fn push_node<S: Sealing>(
     part: &mut [u8; 48],
     out: &mut Vec<u8>,
 ) -> Result<(), AllocError>
-    ensures out { out.new.items ≡ (if is_ok result then out.old.items ++ key_bytes sealed id.number (id.number % 2) (record { number = under; bytes = above.now.bytes }) (key_in node.now) else out.old.items) }
+    ensures out { out.new.items ≡ (if is_ok result then out.old.items ++ key_bytes S.sealed id.number (id.number % 2) (record { number = under; bytes = above.now.bytes }) (key_in node.now) else out.old.items) }
 {
     match &node.held {
         Held::Nothing => Ok(()),
@@ -102,8 +102,8 @@ pub(crate) fn push_content<S: Sealing>(
     out: &mut Vec<u8>,
 ) -> Result<(), AllocError>
     requires { (length part.old ≡ length content.now + 16) × (length content.now ≤ 4096) }
-    ensures out { out.new.items ≡ (if is_ok result then out.old.items ++ encoded (coded_content sealed node.number 0 (record { number = number; bytes = key.now.bytes }) content.now) else out.old.items) }
-    ensures clear { clear cipher.new }
+    ensures out { out.new.items ≡ (if is_ok result then out.old.items ++ encoded (coded_content S.sealed node.number 0 (record { number = number; bytes = key.now.bytes }) content.now) else out.old.items) }
+    ensures clear { S.clear cipher.new }
 {
     let marked = header(CONTENT, node.number, number);
     place_content(content, part);

@@ -26,7 +26,7 @@ pub fn open_at<S: Sealing, M: Medium>(
     part: &mut [u8],
 ) -> Result<(), Failure>
     requires { (16 ≤ length part.old) × (length part.old ≤ 65536) }
-    ensures opened { Opens (sealed key.now.bytes (slot_nonce slot) marked.now) offset (length part.old) (log medium.old) (log medium.new) result (text_of part.new) }
+    ensures opened { Opens (S.sealed key.now.bytes (slot_nonce slot) marked.now) offset (length part.old) (M.log medium.old) (M.log medium.new) result (text_of part.new) }
 {
     let Ok(()) = medium.read_at(offset, part) else {
         return Err(Failure::Device);
@@ -47,7 +47,7 @@ pub fn open_key<S: Sealing, M: Medium>(
     above: &Key,
     part: &mut [u8; 48],
 ) -> Result<(), Failure>
-    ensures { Opens (sealed above.now.bytes (slot_nonce (node.number % 2)) (head 75 node.number number)) offset 48 (log medium.old) (log medium.new) result (take 32 part.new) }
+    ensures { Opens (S.sealed above.now.bytes (slot_nonce (node.number % 2)) (head 75 node.number number)) offset 48 (M.log medium.old) (M.log medium.new) result (take 32 part.new) }
 {
     let marked = header(KEY, node.number, number);
     open_at(
@@ -71,7 +71,7 @@ pub fn step_down<S: Sealing, M: Medium>(
     key: &mut Key,
     part: &mut [u8; 48],
 ) -> Result<(), Failure>
-    ensures { Opens (sealed key.old.bytes (slot_nonce (node.number % 2)) (head 75 node.number number)) offset 48 (log medium.old) (log medium.new) result key.new.bytes }
+    ensures { Opens (S.sealed key.old.bytes (slot_nonce (node.number % 2)) (head 75 node.number number)) offset 48 (M.log medium.old) (M.log medium.new) result key.new.bytes }
 {
     open_key(cipher, medium, node, number, offset, key, part)?;
     key.load(part);
@@ -89,7 +89,7 @@ pub fn open_content<S: Sealing, M: Medium>(
     part: &mut [u8],
 ) -> Result<(), Failure>
     requires { (16 ≤ length part.old) × (length part.old ≤ 65536) }
-    ensures { Opens (sealed key.now.bytes (slot_nonce 0) (head 67 node.number number)) offset (length part.old) (log medium.old) (log medium.new) result (text_of part.new) }
+    ensures { Opens (S.sealed key.now.bytes (slot_nonce 0) (head 67 node.number number)) offset (length part.old) (M.log medium.old) (M.log medium.new) result (text_of part.new) }
 {
     let marked = header(CONTENT, node.number, number);
     open_at(cipher, medium, offset, key, 0, &marked, part)

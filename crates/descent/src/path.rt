@@ -30,8 +30,8 @@ pub fn descend<S: Sealing, M: Medium>(
     part: &mut [u8; 48],
 ) -> Result<(), Failure>
     requires { (levels ≤ 19) × (place < 2 ^ levels) }
-    ensures same { changes (log medium.new) ≡ changes (log medium.old) }
-    ensures down { OfShown sealed levels (rows_of index.now) key.old.bytes (log medium.old) (log medium.new) (Descends levels place result key.new.bytes) }
+    ensures same { changes (M.log medium.new) ≡ changes (M.log medium.old) }
+    ensures down { OfShown S.sealed levels (rows_of index.now) key.old.bytes (M.log medium.old) (M.log medium.new) (Descends levels place result key.new.bytes) }
 {
     let node = NodeId {
         number: places(levels) + place,
@@ -56,7 +56,7 @@ fn open_row<S: Sealing, M: Medium>(
     part: &mut [u8; 48],
     held: &mut Node,
 ) -> Result<(), Failure>
-    ensures { OpensRow sealed node.number row above.now.bytes (log medium.old) (log medium.new) result (key_in held.new) }
+    ensures { OpensRow S.sealed node.number row above.now.bytes (M.log medium.old) (M.log medium.new) result (key_in held.new) }
 {
     match row {
         KeyRow::NoKey => clear(held),
@@ -77,7 +77,7 @@ fn follow<S: Sealing, M: Medium>(
     key: &mut Key,
     part: &mut [u8; 48],
 ) -> Result<(), Failure>
-    ensures { Follows sealed node.number row key.old.bytes (log medium.old) (log medium.new) result key.new.bytes }
+    ensures { Follows S.sealed node.number row key.old.bytes (M.log medium.old) (M.log medium.new) result key.new.bytes }
 {
     match row {
         KeyRow::NoKey => Ok(()),
@@ -99,9 +99,9 @@ pub fn collect<S: Sealing, M: Medium>(
     siblings: &mut [Node],
 ) -> Result<(), Failure>
     requires { (1 ≤ levels) × ((levels ≤ 19) × ((place < 2 ^ levels) × (levels ≤ length siblings.old))) }
-    ensures same { changes (log medium.new) ≡ changes (log medium.old) }
+    ensures same { changes (M.log medium.new) ≡ changes (M.log medium.old) }
     ensures running { StillRuns result }
-    ensures all { OfShown sealed levels (rows_of index.now) key.old.bytes (log medium.old) (log medium.new) (Collects levels place result siblings.new) }
+    ensures all { OfShown S.sealed levels (rows_of index.now) key.old.bytes (M.log medium.old) (M.log medium.new) (Collects levels place result siblings.new) }
 {
     let node = NodeId {
         number: places(levels) + place,

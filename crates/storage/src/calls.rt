@@ -71,11 +71,11 @@ fn refuse_read(index: &Index, levels: u32, place: u32, room: usize) -> Option<Re
 impl<S: Sealing, M: Medium, C: Chip + Drop> Store<S, M, C> {
     // Reads a place into a buffer, from the chip's key down.
     pub fn read(&mut self, place: u32, buffer: &mut [u8]) -> Reading
-        ensures same { changes (log self.new.medium) ≡ changes (log self.old.medium) }
+        ensures same { changes (M.log self.new.medium) ≡ changes (M.log self.old.medium) }
         ensures kept { (self.new.index ≡ self.old.index) × (self.new.seat ≡ self.old.seat) × (self.new.end ≡ self.old.end) × (self.new.levels ≡ self.old.levels) }
         ensures buffer { Fills buffer.old result buffer.new }
-        ensures halted { chip_in holds self.old.seat ≡ None → reading_of result buffer.new ≡ stopped }
-        ensures answer { OfStanding sealed self.old.levels (rows_of self.old.index) self.old.end (chip_in holds self.old.seat) (log self.old.medium) (log self.new.medium) (λ t. Answers (reading_of result buffer.new) (read_answer self.old.levels place (length buffer.old) t)) }
+        ensures halted { chip_in C.holds self.old.seat ≡ None → reading_of result buffer.new ≡ stopped }
+        ensures answer { OfStanding S.sealed self.old.levels (rows_of self.old.index) self.old.end (chip_in C.holds self.old.seat) (M.log self.old.medium) (M.log self.new.medium) (λ t. Answers (reading_of result buffer.new) (read_answer self.old.levels place (length buffer.old) t)) }
     {
         let Seat::Ready(chip) = &self.seat else {
             return Reading::Failed(Failure::Stopped);
@@ -98,7 +98,7 @@ impl<S: Sealing, M: Medium, C: Chip + Drop> Store<S, M, C> {
     // A put or a taking out.
     fn change(&mut self, place: u32, what: What<'_>, keys: &mut [Key]) -> Result<(), Failure>
         ensures levels { self.new.levels ≡ self.old.levels }
-        ensures changes { Changes sealed self.old.levels place (content_in what.entry) (record { log = log self.old.medium; rows = rows_of self.old.index; end = self.old.end; chip = chip_in holds self.old.seat; given = given_in given self.old.seat; keys = keys.old }) result (record { log = log self.new.medium; rows = rows_of self.new.index; end = self.new.end; chip = chip_in holds self.new.seat; given = given_in given self.new.seat; keys = keys.new }) }
+        ensures changes { Changes S.sealed self.old.levels place (content_in what.entry) (record { log = M.log self.old.medium; rows = rows_of self.old.index; end = self.old.end; chip = chip_in C.holds self.old.seat; given = given_in C.given self.old.seat; keys = keys.old }) result (record { log = M.log self.new.medium; rows = rows_of self.new.index; end = self.new.end; chip = chip_in C.holds self.new.seat; given = given_in C.given self.new.seat; keys = keys.new }) }
     {
         let Seat::Ready(chip) = &self.seat else {
             return Err(Failure::Stopped);
@@ -136,7 +136,7 @@ impl<S: Sealing, M: Medium, C: Chip + Drop> Store<S, M, C> {
     // Puts a content in a place, whatever it held, with new keys.
     pub fn put(&mut self, place: u32, content: &[u8], keys: &mut [Key]) -> Result<(), Failure>
         ensures levels { self.new.levels ≡ self.old.levels }
-        ensures changes { Changes sealed self.old.levels place (Some content.now) (record { log = log self.old.medium; rows = rows_of self.old.index; end = self.old.end; chip = chip_in holds self.old.seat; given = given_in given self.old.seat; keys = keys.old }) result (record { log = log self.new.medium; rows = rows_of self.new.index; end = self.new.end; chip = chip_in holds self.new.seat; given = given_in given self.new.seat; keys = keys.new }) }
+        ensures changes { Changes S.sealed self.old.levels place (Some content.now) (record { log = M.log self.old.medium; rows = rows_of self.old.index; end = self.old.end; chip = chip_in C.holds self.old.seat; given = given_in C.given self.old.seat; keys = keys.old }) result (record { log = M.log self.new.medium; rows = rows_of self.new.index; end = self.new.end; chip = chip_in C.holds self.new.seat; given = given_in C.given self.new.seat; keys = keys.new }) }
     {
         self.change(place, What::Put(content), keys)
     }
@@ -144,7 +144,7 @@ impl<S: Sealing, M: Medium, C: Chip + Drop> Store<S, M, C> {
     // Takes out what a place holds, or nothing, with new keys.
     pub fn take_out(&mut self, place: u32, keys: &mut [Key]) -> Result<(), Failure>
         ensures levels { self.new.levels ≡ self.old.levels }
-        ensures changes { Changes sealed self.old.levels place None (record { log = log self.old.medium; rows = rows_of self.old.index; end = self.old.end; chip = chip_in holds self.old.seat; given = given_in given self.old.seat; keys = keys.old }) result (record { log = log self.new.medium; rows = rows_of self.new.index; end = self.new.end; chip = chip_in holds self.new.seat; given = given_in given self.new.seat; keys = keys.new }) }
+        ensures changes { Changes S.sealed self.old.levels place None (record { log = M.log self.old.medium; rows = rows_of self.old.index; end = self.old.end; chip = chip_in C.holds self.old.seat; given = given_in C.given self.old.seat; keys = keys.old }) result (record { log = M.log self.new.medium; rows = rows_of self.new.index; end = self.new.end; chip = chip_in C.holds self.new.seat; given = given_in C.given self.new.seat; keys = keys.new }) }
     {
         self.change(place, nothing(), keys)
     }

@@ -16,8 +16,8 @@ use sealing::key::Key;
 
 // The chip can't be used any more before the store comes up.
 fn halt<C: Chip + Drop>(seat: &mut Seat<C>)
-    ensures chip { chip_in holds seat.new ≡ None }
-    ensures given { given_in given seat.new ≡ given_in given seat.old }
+    ensures chip { chip_in C.holds seat.new ≡ None }
+    ensures given { given_in C.given seat.new ≡ given_in C.given seat.old }
 {
     match std::mem::replace(seat, Seat::Away) {
         Seat::Ready(chip) => *seat = Seat::Halted(chip),
@@ -28,7 +28,7 @@ fn halt<C: Chip + Drop>(seat: &mut Seat<C>)
 
 // Records at the end of the medium, and synced.
 fn write_records<M: Medium>(medium: &mut M, records: &[u8]) -> Result<(), Failure>
-    ensures { Writes records.now (log medium.old) result (log medium.new) }
+    ensures { Writes records.now (M.log medium.old) result (M.log medium.new) }
 {
     let Ok(()) = medium.append(records) else {
         return Err(Failure::Stopped);
@@ -46,7 +46,7 @@ fn turn_chip<M: Medium, C: Chip + Drop>(
     key: &Key,
     number: u32,
 ) -> Result<(), Failure>
-    ensures { Turns holds given (given_now number key.now.bytes (log medium.now)) seat.old result seat.new }
+    ensures { Turns C.holds C.given (given_now number key.now.bytes (M.log medium.now)) seat.old result seat.new }
 {
     match std::mem::replace(seat, Seat::Away) {
         Seat::Ready(chip) => match chip.replaced(key, number, medium) {
@@ -75,7 +75,7 @@ pub(crate) fn commit<M: Medium, C: Chip + Drop>(
     key: &Key,
     number: u32,
 ) -> Result<(), Failure>
-    ensures { Commits holds given records.now (record { number = number; bytes = key.now.bytes }) (log medium.old) (log medium.new) seat.old result seat.new }
+    ensures { Commits C.holds C.given records.now (record { number = number; bytes = key.now.bytes }) (M.log medium.old) (M.log medium.new) seat.old result seat.new }
 {
     if let Err(why) = write_records(medium, records) {
         halt(seat);
@@ -100,7 +100,7 @@ pub(crate) fn finish<M: Medium, C: Chip + Drop>(
     number: u32,
 ) -> Result<(), Failure>
     requires { (i < length keys.old) × (levels ≤ 19) }
-    ensures { Finishes levels records.now (record { number = number; bytes = bytes_in keys.old i }) (record { log = log medium.old; rows = rows_of index.old; end = end.old; chip = chip_in holds seat.old; given = given_in given seat.old; keys = keys.old }) result (record { log = log medium.new; rows = rows_of index.new; end = end.new; chip = chip_in holds seat.new; given = given_in given seat.new; keys = keys.new }) }
+    ensures { Finishes levels records.now (record { number = number; bytes = bytes_in keys.old i }) (record { log = M.log medium.old; rows = rows_of index.old; end = end.old; chip = chip_in C.holds seat.old; given = given_in C.given seat.old; keys = keys.old }) result (record { log = M.log medium.new; rows = rows_of index.new; end = end.new; chip = chip_in C.holds seat.new; given = given_in C.given seat.new; keys = keys.new }) }
 {
     let count = records.len() as u64;
     if count >= MOST || *end >= MOST {

@@ -34,7 +34,7 @@ fn make_parts(heap: Global, levels: u32) -> Result<(Index, Work), AllocError>
 impl<S: Sealing + Drop, M: Medium + Drop, C: Chip + Drop> Store<S, M, C> {
     // An empty store over an empty medium and a chip that has not been given a key yet. One that has is newer than the medium: the medium is old. There is no store of no levels, or of more than 19.
     pub fn new(heap: Global, cipher: S, medium: M, chip: C, levels: u32) -> Result<Self, Failure>
-        ensures { elim result [ Ok s ↦ (s.levels ≡ levels) × (chip_in holds s.seat ≡ Some (holds chip)) × ((first : List ℕ) → held first (log medium) ≡ [] → holds chip ≡ record { number = 0; bytes = replicate 32 0 } → Standing sealed levels first (log s.medium) (rows_of s.index) s.end (holds chip) bare) | Err why ↦ NotBegun levels (holds chip).number why ] }
+        ensures { elim result [ Ok s ↦ (s.levels ≡ levels) × (chip_in C.holds s.seat ≡ Some (C.holds chip)) × ((first : List ℕ) → held first (M.log medium) ≡ [] → C.holds chip ≡ record { number = 0; bytes = replicate 32 0 } → Standing S.sealed levels first (M.log s.medium) (rows_of s.index) s.end (C.holds chip) bare) | Err why ↦ NotBegun levels (C.holds chip).number why ] }
     {
         if levels < 1 || levels > MOST_LEVELS {
             return Err(Failure::Refused(Refusal::NoSuchPlace));

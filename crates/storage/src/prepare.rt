@@ -34,7 +34,7 @@ fn write_change<S: Sealing>(
     out: &mut Vec<u8>,
 ) -> Result<u32, Unwritten>
     requires { (levels ≤ length siblings.now) × (4112 ≤ length room.old) }
-    ensures { Writes sealed levels place (content_in what.entry) keys.now last siblings.now out.old.items result out.new.items }
+    ensures { Writes S.sealed levels place (content_in what.entry) keys.now last siblings.now out.old.items result out.new.items }
 {
     match what {
         What::Put(content) => put(
@@ -66,9 +66,9 @@ fn collect_and_write<S: Sealing, M: Medium>(
     requires room { length room.old ≡ 4112 }
     requires wide { length siblings.old ≡ levels }
     requires empty { out.old.items ≡ [] }
-    ensures same { changes (log medium.new) ≡ changes (log medium.old) }
+    ensures same { changes (M.log medium.new) ≡ changes (M.log medium.old) }
     ensures decides { Decides levels place last (content_in what.entry) (length keys.now) result }
-    ensures prepares { OfShown sealed levels (rows_of index.now) key.old.bytes (log medium.old) (log medium.new) (Prepares sealed levels place last (content_in what.entry) keys.now result out.new.items) }
+    ensures prepares { OfShown S.sealed levels (rows_of index.now) key.old.bytes (M.log medium.old) (M.log medium.new) (Prepares S.sealed levels place last (content_in what.entry) keys.now result out.new.items) }
 {
     collect(cipher, medium, index, levels, place, key, part, siblings)?;
     match write_change(
@@ -107,9 +107,9 @@ fn write_and_clean<S: Sealing, M: Medium>(
     ensures part { part.new ≡ replicate 48 0 }
     ensures room { room.new ≡ replicate 4112 0 }
     ensures siblings { Keyless siblings.new }
-    ensures same { changes (log medium.new) ≡ changes (log medium.old) }
+    ensures same { changes (M.log medium.new) ≡ changes (M.log medium.old) }
     ensures decides { Decides levels place last (content_in what.entry) (length keys.now) result }
-    ensures prepares { OfShown sealed levels (rows_of index.now) root.now.bytes (log medium.old) (log medium.new) (Prepares sealed levels place last (content_in what.entry) keys.now result out.new.items) }
+    ensures prepares { OfShown S.sealed levels (rows_of index.now) root.now.bytes (M.log medium.old) (M.log medium.new) (Prepares S.sealed levels place last (content_in what.entry) keys.now result out.new.items) }
 {
     key.load(root.as_bytes());
     let written = collect_and_write(
@@ -143,9 +143,9 @@ impl Work {
         requires wide { vec_len self.old.siblings ≡ levels }
         requires empty { out.old.items ≡ [] }
         ensures wide { vec_len self.new.siblings ≡ vec_len self.old.siblings }
-        ensures same { changes (log medium.new) ≡ changes (log medium.old) }
+        ensures same { changes (M.log medium.new) ≡ changes (M.log medium.old) }
         ensures decides { Decides levels place last (content_in what.entry) (length keys.now) result }
-        ensures prepares { OfShown sealed levels (rows_of index.now) root.now.bytes (log medium.old) (log medium.new) (Prepares sealed levels place last (content_in what.entry) keys.now result out.new.items) }
+        ensures prepares { OfShown S.sealed levels (rows_of index.now) root.now.bytes (M.log medium.old) (M.log medium.new) (Prepares S.sealed levels place last (content_in what.entry) keys.now result out.new.items) }
     {
         write_and_clean(
             cipher,

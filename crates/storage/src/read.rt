@@ -35,7 +35,7 @@ fn open_room<S: Sealing, M: Medium>(
     room: &mut [u8],
 ) -> Result<(), Failure>
     requires { (count ≤ 4096) × (length room.old ≡ 4112) }
-    ensures { Opens (sealed key.now.bytes (slot_nonce 0) (head 67 node.number number)) offset (count + 16) (log medium.old) (log medium.new) result (take count room.new) }
+    ensures { Opens (S.sealed key.now.bytes (slot_nonce 0) (head 67 node.number number)) offset (count + 16) (M.log medium.old) (M.log medium.new) result (take count room.new) }
 {
     open_content(
         cipher,
@@ -60,9 +60,9 @@ pub(crate) fn read_place<S: Sealing, M: Medium>(
     room: &mut [u8],
 ) -> Result<usize, Failure>
     requires { (levels ≤ 19) × ((place < 2 ^ levels) × (length room.old ≡ 4112)) }
-    ensures same { changes (log medium.new) ≡ changes (log medium.old) }
+    ensures same { changes (M.log medium.new) ≡ changes (M.log medium.old) }
     ensures fits { IfOk result (λ n. n ≤ 4096) }
-    ensures reads { OfShown sealed levels (rows_of index.now) key.old.bytes (log medium.old) (log medium.new) (Reads levels place result room.new) }
+    ensures reads { OfShown S.sealed levels (rows_of index.now) key.old.bytes (M.log medium.old) (M.log medium.new) (Reads levels place result room.new) }
 {
     let ContentRow::Sealed {
         number,
@@ -113,10 +113,10 @@ pub(crate) fn read_with<S: Sealing, M: Medium>(
     buffer: &mut [u8],
 ) -> Reading
     requires { (levels ≤ 19) × (place < 2 ^ levels) }
-    ensures same { changes (log medium.new) ≡ changes (log medium.old) }
+    ensures same { changes (M.log medium.new) ≡ changes (M.log medium.old) }
     ensures wide { vec_len work.new.siblings ≡ vec_len work.old.siblings }
     ensures buffer { Fills buffer.old result buffer.new }
-    ensures answer { OfShown sealed levels (rows_of index.now) root.now.bytes (log medium.old) (log medium.new) (λ t. Answers (reading_of result buffer.new) (read_answer levels place (length buffer.old) t)) }
+    ensures answer { OfShown S.sealed levels (rows_of index.now) root.now.bytes (M.log medium.old) (M.log medium.new) (λ t. Answers (reading_of result buffer.new) (read_answer levels place (length buffer.old) t)) }
 {
     work.key.load(root.as_bytes());
     let read = read_place(

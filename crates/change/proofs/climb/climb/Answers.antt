@@ -14,8 +14,8 @@ pub loop-h-preserved : goal.loop-h-preserved
 loop-h-preserved g c = (
   c.parent-node.ensures ∙ half_more c.args.start.number c.loop-h.h c.loop-h.node.number c.loop-h.invariant.0,
   extends_more (vec_items c.args.out.now) _ (turn_bytes g.S.Sealing.sealed (c.args.start.number / 2 ^ c.loop-h.h) c.args.last c.args.keys.now (c.loop-h.h + c.args.first) (sibling_in c.args.siblings.now c.loop-h.h))
-      (vec_items c.loop-h.out) (vec_items c.push-both.new.out) c.loop-h.invariant.1
-      (c.in-ok-push-both.ensures
+      (vec_items c.loop-h.out) (vec_items c.push_both.new.out) c.loop-h.invariant.1
+      (c.in_ok-push_both.ensures
       ∙ ap (λ (x : List ℕ). vec_items c.loop-h.out ++ x)
       (ap (λ (n : ℕ). turn_bytes g.S.Sealing.sealed n c.args.last c.args.keys.now (c.loop-h.h + c.args.first) (key_in c.index-siblings-h.result)) c.loop-h.invariant.0
       ∙ ap (turn_bytes g.S.Sealing.sealed (c.args.start.number / 2 ^ c.loop-h.h) c.args.last c.args.keys.now (c.loop-h.h + c.args.first))
@@ -23,7 +23,7 @@ loop-h-preserved g c = (
       ∙ ap (λ (x : List ℕ). vec_items c.args.out.now ++ x) (turns_more g.S.Sealing.sealed c.args.start.number c.args.first c.args.last c.args.keys.now c.args.siblings.now c.loop-h.h),
 )
 
-pub returns-in-err-push-both : goal.returns-in-err-push-both
-returns-in-err-push-both g c =
-    extends_failed c.from-residual.result _ _ _ c.from-residual.ensures.0
-    (kept_then (vec_items c.args.out.now) _ (vec_items c.loop-h.out) _ c.loop-h.invariant.1 c.in-err-push-both.ensures)
+pub returns-in_err-push_both : goal.returns-in_err-push_both
+returns-in_err-push_both g c =
+    extends_failed c.from_residual.result _ _ _ c.from_residual.ensures.0
+    (kept_then (vec_items c.args.out.now) _ (vec_items c.loop-h.out) _ c.loop-h.invariant.1 c.in_err-push_both.ensures)

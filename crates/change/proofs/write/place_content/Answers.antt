@@ -4,5 +4,5 @@ use Rattle.change.proofs.write.place_content.Goals as goal
 
 pub returns : goal.returns
 returns c =
-    let e = c.copy-from-slice.ensures.after in
-    text-placed c.copy-from-slice.new.self c.args.part.now (length c.args.content.now - 0) (omega arith) (omega (arith, ap length e)) ∙ e
+    let e = c.copy_from_slice.ensures.after in
+    text-placed c.copy_from_slice.new.self c.args.part.now (length c.args.content.now - 0) (omega arith) (omega (arith, ap length e)) ∙ e

@@ -4,4 +4,4 @@ use Rattle.change.proofs.write.place_key.Goals as goal
 
 pub returns : goal.returns
 returns c =
-    text-placed c.copy-from-slice.new.self c.args.part.now 32 (omega arith) (omega arith) ∙ c.copy-from-slice.ensures.after
+    text-placed c.copy_from_slice.new.self c.args.part.now 32 (omega arith) (omega arith) ∙ c.copy_from_slice.ensures.after
