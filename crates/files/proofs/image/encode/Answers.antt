@@ -13,5 +13,5 @@ pub returns : goal.returns
 returns c =
     let xs = c.args.bytes.now in
     let e : length xs ≡ 36 = search rules in
-    ap (λ (n : List ℕ). put_mid 4 32 (n ++ post_of 0 4 xs) c.copy-from-slice-2.new.self) (c.copy-from-slice.ensures.after ∙ c.to-be-bytes.ensures)
-    ∙ (two _ _ _ _ xs c.copy-from-slice-2.new.self e ∙ ap (λ (ks : List ℕ). number_bytes c.args.number ++ ks) (c.copy-from-slice-2.ensures.after ∙ c.as-bytes.ensures))
+    ap (λ (n : List ℕ). put_mid 4 32 (n ++ post_of 0 4 xs) c.copy_from_slice-2.new.self) (c.copy_from_slice.ensures.after ∙ c.to_be_bytes.ensures)
+    ∙ (two _ _ _ _ xs c.copy_from_slice-2.new.self e ∙ ap (λ (ks : List ℕ). number_bytes c.args.number ++ ks) (c.copy_from_slice-2.ensures.after ∙ c.as_bytes.ensures))

@@ -7,7 +7,7 @@ use Rattle.memory.proofs.medium.MemoryMedium.left.Goals as goal
 pub returns : goal.returns
 returns c =
     let n = c.args.self.lasting in
-    let m = c.saturating-add.result in
+    let m = c.saturating_add.result in
     let b = vec_items c.args.self.bytes in
     let log = events c.args.self.trace.asked in
     let e : n + (m - n) ≡ m = omega arith in

@@ -3,12 +3,13 @@ use Rattle.trace.specs.Asked.{events}
 use Rattle.memory.proofs.Steps.{Kept, gets}
 use Rattle.memory.proofs.medium.MemoryMediumMedium.read_at.Goals as goal
 
-pub invariant-of-self : goal.invariant-of-self
-invariant-of-self c =
+pub invariant_of-self : goal.invariant_of-self
+invariant_of-self c =
     let s = c.args.self.now in
-    gets s.power.on s.lasting c.args.offset (vec_items s.bytes) c.copy-from-slice.new.self (events s.trace.asked) (events c.got-asked.result.asked) (s.faithful, (s.whole, (s.left, tt))) c.got-asked.ensures
+    let kept = gets s.power.on s.lasting c.args.offset (vec_items s.bytes) c.copy_from_slice.new.self (events s.trace.asked) (events c.got-asked.result.asked) (s.faithful, (s.whole, (s.left, tt))) c.got-asked.ensures
     (search rules)
-    (let z : length c.copy-from-slice.new.self ≡ c.args.offset + length c.args.buffer.now - c.args.offset = omega (arith, c.copy-from-slice.ensures.len) in
+    (let z : length c.copy_from_slice.new.self ≡ c.args.offset + length c.args.buffer.now - c.args.offset = omega (arith, c.copy_from_slice.ensures.len) in
     ap (λ (k : ℕ). take k (drop c.args.offset (vec_items s.bytes))) z
-    ∙ (ap (λ (l : List ℕ). take (c.args.offset + length c.args.buffer.now - c.args.offset) (drop c.args.offset l)) (sym c.deref.ensures.value) ∙ sym c.copy-from-slice.ensures.after))
-    (omega (arith, s.bytes.ok.0, c.copy-from-slice.ensures.len))
+    ∙ (ap (λ (l : List ℕ). take (c.args.offset + length c.args.buffer.now - c.args.offset) (drop c.args.offset l)) (sym c.deref.ensures.value) ∙ sym c.copy_from_slice.ensures.after))
+    (omega (arith, s.bytes.ok.0, c.copy_from_slice.ensures.len)) in
+    record { faithful = kept.0; whole = kept.1.0; left = kept.1.1.0 }
