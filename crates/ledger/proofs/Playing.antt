@@ -27,7 +27,7 @@ module _ {K : Type 0} (d : ℕ) where
   wrote-seen : (s : State K ℕ) (p : Pending K ℕ) (t : Tree K ℕ) (rs : List (Tree K ℕ)) → Seen s t rs → Seen (wrote s p) t rs
   wrote-seen s idle t rs g = g
   wrote-seen s (busy [] x) t rs g = g
-  wrote-seen s (busy (r ∷ xs) x) t rs g = record { tree_is = g.tree_is; looks_are = g.looks-are }
+  wrote-seen s (busy (r ∷ xs) x) t rs g = record { tree_is = g.tree_is; looks_are = g.looks_are }
 
   some_seen : (n : ℕ) (s : State K ℕ) (t : Tree K ℕ) (rs : List (Tree K ℕ)) → Seen s t rs → Seen (run d (some_writes n) s) t rs
   some_seen zero s t rs g = g
@@ -59,7 +59,7 @@ module _ {K : Type 0} (d : ℕ) where
   broken-seen e n s t f =
       let s1 : State K ℕ = step d (starts 0 e) s in
       subst (λ (x : State K ℕ). Seen x t s.looks) (sym (run-joined d (some_writes n) (stops ∷ []) s1))
-      (let g = some_seen n s1 t s.looks (record { tree_is = f; looks_are = refl }) in record { tree_is = g.tree_is; looks_are = g.looks-are })
+      (let g = some_seen n s1 t s.looks (record { tree_is = f; looks_are = refl }) in record { tree_is = g.tree_is; looks_are = g.looks_are })
 
   -- A BOOK AGREES with a tree and looks.
   record Agrees (b : Book) (t : Tree K ℕ) (rs : List (Tree K ℕ)) : Type 0 where
@@ -159,7 +159,7 @@ module _ {K : Type 0} (d : ℕ) where
         let w : Seen s1 (edited edit t) s.looks = whole-seen edit s t e in
         subst (AgreesAt (played_all ms (played (Put p) b))) (sym (run-joined d (whole d edit t) (acts_from d keys (suc j) (suc i) (edited edit t) ms) s))
         (agrees-all ms (suc j) (suc i) (played (Put p) b) s1 (edited edit t) h.rest (ap suc n ∙ sym (one_longer b.seen false)) w.tree_is
-        (subst (Agrees (played (Put p) b) (edited edit t)) (sym w.looks-are)
+        (subst (Agrees (played (Put p) b) (edited edit t)) (sym w.looks_are)
         (subst (λ (x : ℕ). Agrees (played (Put p) b) (edited (single (Some x) (keys j) d p) t) s.looks) (sym n) (agrees_put b t s.looks p (keys j) h.first g))))
     agrees-all (PutCut p k ∷ ms) j i b s t a n e g =
         let h : Both d (PutCut p k) ms = both d (PutCut p k) ms a in
@@ -168,7 +168,7 @@ module _ {K : Type 0} (d : ℕ) where
         let w : Seen s1 t s.looks = broken-seen edit k s t e in
         subst (AgreesAt (played_all ms (played (PutCut p k) b))) (sym (run-joined d (broken edit k) (acts_from d keys (suc j) (suc i) t ms) s))
         (agrees-all ms (suc j) (suc i) (played (PutCut p k) b) s1 t h.rest (ap suc n ∙ sym (one_longer b.seen false)) w.tree_is
-        (subst (Agrees (played (PutCut p k) b) t) (sym w.looks-are) (agrees_put_cut b t s.looks p k h.first g)))
+        (subst (Agrees (played (PutCut p k) b) t) (sym w.looks_are) (agrees_put_cut b t s.looks p k h.first g)))
     agrees-all (Out p ∷ ms) j i b s t a n e g =
         let h : Both d (Out p) ms = both d (Out p) ms a in
         let edit : Edit K ℕ = single None (keys j) d p in
@@ -176,14 +176,14 @@ module _ {K : Type 0} (d : ℕ) where
         let w : Seen s1 (edited edit t) s.looks = whole-seen edit s t e in
         subst (AgreesAt (played_all ms (played (Out p) b))) (sym (run-joined d (whole d edit t) (acts_from d keys (suc j) i (edited edit t) ms) s))
         (agrees-all ms (suc j) i (played (Out p) b) s1 (edited edit t) h.rest n w.tree_is
-        (subst (Agrees (played (Out p) b) (edited edit t)) (sym w.looks-are) (agrees-out b t s.looks p (keys j) h.first g)))
+        (subst (Agrees (played (Out p) b) (edited edit t)) (sym w.looks_are) (agrees-out b t s.looks p (keys j) h.first g)))
     agrees-all (OutCut p k ∷ ms) j i b s t a n e g =
         let h : Both d (OutCut p k) ms = both d (OutCut p k) ms a in
         let edit : Edit K ℕ = single None (keys j) d p in
         let s1 : State K ℕ = run d (broken edit k) s in
         let w : Seen s1 t s.looks = broken-seen edit k s t e in
         subst (AgreesAt (played_all ms b)) (sym (run-joined d (broken edit k) (acts_from d keys (suc j) i t ms) s))
-        (agrees-all ms (suc j) i b s1 t h.rest n w.tree_is (subst (Agrees b t) (sym w.looks-are) g))
+        (agrees-all ms (suc j) i b s1 t h.rest n w.tree_is (subst (Agrees b t) (sym w.looks_are) g))
     agrees-all (Look ∷ ms) j i b s t a n e g =
         agrees-all ms j i (played Look b) (step d looks s) t a (n ∙ sym (looked-length b.standing b.seen)) e
         (subst (λ (x : Tree K ℕ). Agrees (played Look b) t (x ∷ s.looks)) (sym e) (agrees_look b t s.looks g))

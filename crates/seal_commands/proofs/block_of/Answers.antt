@@ -11,13 +11,13 @@ returns-in_err-key c =
 
 pub returns-in_err-counter : goal.returns-in_err-counter
 returns-in_err-counter c =
-    let p = err_from_is_err_and c.from-residual-in-err-counter.result c.from-residual-in-err-counter.ensures.1 in
-    rw (p.1, p.2) (later c.in-err-counter.field-0.0 (reads _ c.in_ok-key.ensures) (stops c.in-err-counter.field-0.0 _ _ c.in-err-counter.ensures))
+    let p = err_from_is_err_and c.from_residual-in_err-counter.result c.from_residual-in_err-counter.ensures.1 in
+    rw (p.1, p.2) (later c.in_err-counter.field-0.0 (reads _ c.in_ok-key.ensures) (stops c.in_err-counter.field-0.0 _ _ c.in_err-counter.ensures))
 
 pub returns-in_err-nonce : goal.returns-in_err-nonce
 returns-in_err-nonce c =
-    let p = err_from_is_err_and c.from-residual-in-err-nonce.result c.from-residual-in-err-nonce.ensures.1 in
-    rw (p.1, p.2) (later c.in-err-nonce.field-0.0 (reads _ c.in_ok-key.ensures ∙ reads _ c.in_ok-counter.ensures) (stops c.in-err-nonce.field-0.0 _ _ c.in-err-nonce.ensures))
+    let p = err_from_is_err_and c.from_residual-in_err-nonce.result c.from_residual-in_err-nonce.ensures.1 in
+    rw (p.1, p.2) (later c.in_err-nonce.field-0.0 (reads _ c.in_ok-key.ensures ∙ reads _ c.in_ok-counter.ensures) (stops c.in_err-nonce.field-0.0 _ _ c.in_err-nonce.ensures))
 
 pub returns : goal.returns
 returns c = reads _ c.in_ok-key.ensures ∙ reads _ c.in_ok-counter.ensures ∙ reads _ c.in_ok-nonce.ensures ∙ ap (λ k. Ok (block k c.in_ok-counter.counter c.in_ok-nonce.nonce.0)) (sym c.take.ensures.value)

@@ -11,8 +11,8 @@ returns-in_err-once c =
 
 pub returns-in_err-message : goal.returns-in_err-message
 returns-in_err-message c =
-    let p = err_from_is_err_and c.from-residual-in-err-message.result c.from-residual-in-err-message.ensures.1 in
-    rw (p.1, p.2) (later c.in-err-message.field-0.0 (reads _ c.in_ok-once.ensures) (stops c.in-err-message.field-0.0 _ _ c.in-err-message.ensures))
+    let p = err_from_is_err_and c.from_residual-in_err-message.result c.from_residual-in_err-message.ensures.1 in
+    rw (p.1, p.2) (later c.in_err-message.field-0.0 (reads _ c.in_ok-once.ensures) (stops c.in_err-message.field-0.0 _ _ c.in_err-message.ensures))
 
 pub returns : goal.returns
 returns c = reads _ c.in_ok-once.ensures ∙ reads _ c.in_ok-message.ensures ∙ ap (λ k. Ok (mark k (vec_items c.in_ok-message.message))) (sym c.take.ensures.value)

@@ -16,8 +16,8 @@ returns-in_err-nonce c =
 
 pub returns-in_err-marked : goal.returns-in_err-marked
 returns-in_err-marked c =
-    let p = err_from_is_err_and c.from-residual-in-err-marked.result c.from-residual-in-err-marked.ensures.1 in
-    rw (p.1, p.2) (later c.in-err-marked.field-0.0 (reads _ c.in_ok-key.ensures ∙ reads _ c.in_ok-nonce.ensures) (stops c.in-err-marked.field-0.0 _ _ c.in-err-marked.ensures))
+    let p = err_from_is_err_and c.from_residual-in_err-marked.result c.from_residual-in_err-marked.ensures.1 in
+    rw (p.1, p.2) (later c.in_err-marked.field-0.0 (reads _ c.in_ok-key.ensures ∙ reads _ c.in_ok-nonce.ensures) (stops c.in_err-marked.field-0.0 _ _ c.in_err-marked.ensures))
 
 pub returns-in_err-content : goal.returns-in_err-content
 returns-in_err-content c =

@@ -2,7 +2,7 @@ use Rattle.std.proofs.Common.{◌≡◌, ℕ, ◌+◌, ◌<◌, Bool, List, leng
 use Rattle.ledger.specs.Book.{sees, looked}
 use Rattle.ledger.proofs.Books.{looked_more}
 use Rattle.ledger.proofs.ledger.see.Goals as goal
-use Rattle.ledger.proofs.ledger.see.Goals.{in-Some, in-default}
+use Rattle.ledger.proofs.ledger.see.Goals.{in-Some, in_default}
 
 -- One place more.
 one_more : (os : List (Option ℕ)) (seen was : List Bool) (i : ℕ) (o : Option ℕ) → i < length os → get_or os i None ≡ o → was ≡ looked (take i os) seen → sees o was ≡ looked (take (i + 1) os) seen
@@ -17,7 +17,7 @@ pub loop-stands-preserved : goal.loop-stands-preserved
 loop-stands-preserved c =
     elim c.match-stands.branch [
       | in-Some w ↦ w.seen-is ∙ one_more c.args.standing.now c.args.seen.now c.loop-stands.seen c.loop-stands.stands-index (Some w.in-Some.put) c.loop-stands-test.true w.in-Some.is c.loop-stands.invariant
-      | in-default w ↦ w.seen-is ∙ one_more c.args.standing.now c.args.seen.now c.loop-stands.seen c.loop-stands.stands-index None c.loop-stands-test.true w.in-default.is c.loop-stands.invariant
+      | in_default w ↦ w.seen-is ∙ one_more c.args.standing.now c.args.seen.now c.loop-stands.seen c.loop-stands.stands-index None c.loop-stands-test.true w.in_default.is c.loop-stands.invariant
     ]
 
 pub returns : goal.returns

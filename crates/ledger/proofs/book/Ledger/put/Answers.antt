@@ -6,27 +6,27 @@ use Rattle.ledger.proofs.Books.{counted}
 use Rattle.ledger.proofs.Keeping.{sized, put_more}
 use Rattle.ledger.proofs.book.Ledger.put.Goals as goal
 
-pub index-mut-requires : goal.index-mut-requires
-index-mut-requires c =
+pub index_mut-requires : goal.index_mut-requires
+index_mut-requires c =
     let self = c.args.self.now in
     let size = sized self.levels (vec_items self.moves) self.placed (vec_items self.standing) self.stands in
     let len = self.standing.ok.0 in omega arith
 
-pub invariant-of-self-2 : goal.invariant-of-self-2
-invariant-of-self-2 c =
+pub invariant_of-self-2 : goal.invariant_of-self-2
+invariant_of-self-2 c =
     let self = c.args.self.now in
     let here : c.args.place < 2 ^ self.levels = omega arith in
     let count : c.len-number.result ≡ length (vec_items self.seen) = omega (arith, self.seen.ok.0) in
-    let is : vec_items c.push-reserved.new.self ≡ vec_items self.moves ++ Put c.args.place ∷ [] = c.push-reserved.ensures.items ∙ ap (λ (x : List Move). x ++ Put c.args.place ∷ []) c.reserve.ensures.items in
+    let is : vec_items c.push_reserved.new.self ≡ vec_items self.moves ++ Put c.args.place ∷ [] = c.push_reserved.ensures.items ∙ ap (λ (x : List Move). x ++ Put c.args.place ∷ []) c.reserve.ensures.items in
     let longer : vec_items c.push.new.self ≡ vec_items self.seen ++ false ∷ [] =
-    c.push.ensures.items ∙ ap (λ (b : Bool). cond b (vec_items self.seen ++ false ∷ []) (vec_items self.seen)) c.if-is-err-2.ensures.negation in
-    let more = put_more self.levels (vec_items self.moves) self.placed (vec_items self.standing) (vec_items self.seen) self.stands self.saw (vec_items c.push-reserved.new.self) c.args.place here is c.len-number.result count (vec_items c.push.new.self) longer in
-    (self.few, (more.0, (more.1, (more.2, tt))))
+    c.push.ensures.items ∙ ap (λ (b : Bool). cond b (vec_items self.seen ++ false ∷ []) (vec_items self.seen)) c.if-is_err-2.ensures.negation in
+    let more = put_more self.levels (vec_items self.moves) self.placed (vec_items self.standing) (vec_items self.seen) self.stands self.saw (vec_items c.push_reserved.new.self) c.args.place here is c.len-number.result count (vec_items c.push.new.self) longer in
+    record { few = self.few; placed = more.0; stands = more.1; saw = more.2 }
 
 pub returns : goal.returns
 returns c =
     let self = c.args.self.now in
     let here : c.args.place < 2 ^ self.levels = omega arith in
-    let is : vec_items c.push-reserved.new.self ≡ vec_items self.moves ++ Put c.args.place ∷ [] = c.push-reserved.ensures.items ∙ ap (λ (x : List Move). x ++ Put c.args.place ∷ []) c.reserve.ensures.items in
+    let is : vec_items c.push_reserved.new.self ≡ vec_items self.moves ++ Put c.args.place ∷ [] = c.push_reserved.ensures.items ∙ ap (λ (x : List Move). x ++ Put c.args.place ∷ []) c.reserve.ensures.items in
     let count : c.len-number.result ≡ puts_in (vec_items self.moves) = c.len-number.ensures ∙ self.seen.ok.0 ∙ counted self.levels (vec_items self.moves) (vec_items self.seen) self.saw in
     record { levels = refl; noted = (here, is, count) }
