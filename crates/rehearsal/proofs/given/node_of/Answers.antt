@@ -5,4 +5,4 @@ use Rattle.rehearsal.proofs.given.node_of.Goals as goal
 pub returns-in-Some : goal.returns-in-Some
 returns-in-Some c =
     let is = ap keyed c.in-Some.is in
-    let key = c.key-of.ensures in cc
+    let key = c.key_of.ensures in cc

@@ -15,9 +15,9 @@ loop-h-preserved c =
     let way = c.loop-h.invariant.2 in (
       omega arith,
       omega arith,
-      half_more c.args.start.number c.loop-h.-h c.loop-h.node.number c.parent-node.result.number way c.parent-node.ensures,
+      half_more c.args.start.number c.loop-h._h c.loop-h.node.number c.parent-node.result.number way c.parent-node.ensures,
       ap (map key_in) c.push-reserved.ensures.items
-          ∙ one_sibling c.args.start.number c.loop-h.-h c.args.numbers.now.0 (vec_items c.loop-h.nodes) c.node-of.result c.loop-h.invariant.3
+          ∙ one_sibling c.args.start.number c.loop-h._h c.args.numbers.now.0 (vec_items c.loop-h.nodes) c.node-of.result c.loop-h.invariant.3
           (c.node-of.ensures
           ∙ ap keyed (c.of.ensures ∙ ap (λ (n : ℕ). get_or c.args.numbers.now.0 n None) (c.sibling.ensures ∙ ap sibling_of way))),
     )

@@ -5,5 +5,5 @@ use Rattle.rehearsal.proofs.given.siblings.Given as goal
 
 abbrev pub invariant-loop-h : goal.invariant-loop-h
 invariant-loop-h l =
-    (vec_len l.nodes ≡ l.-h) × (l.levels ≤ vec_capacity l.nodes) × (l.node.number ≡ l.initial.node.number / 2 ^ l.-h)
-    × (map key_in (vec_items l.nodes) ≡ siblings_of l.initial.node.number l.numbers.0 l.-h)
+    (vec_len l.nodes ≡ l._h) × (l.levels ≤ vec_capacity l.nodes) × (l.node.number ≡ l.initial.node.number / 2 ^ l._h)
+    × (map key_in (vec_items l.nodes) ≡ siblings_of l.initial.node.number l.numbers.0 l._h)

@@ -6,16 +6,16 @@ use Rattle.rehearsal.specs.Siblings.{siblings_of}
 use Rattle.rehearsal.proofs.Recording.{recorded}
 use Rattle.rehearsal.proofs.state.Rehearsal.write_put.Goals as goal
 
-pub returns-in-err-given : goal.returns-in-err-given
-returns-in-err-given c = IfOk-from_err c.from-residual-in-err-given.result _ c.from-residual-in-err-given.ensures.0
+pub returns-in_err-given : goal.returns-in_err-given
+returns-in_err-given c = IfOk-from_err c.from_residual-in_err-given.result _ c.from_residual-in_err-given.ensures.0
 
-pub returns-in-err-root : goal.returns-in-err-root
-returns-in-err-root c = IfOk-from_err c.from-residual-in-err-root.result _ c.from-residual-in-err-root.ensures.0
+pub returns-in_err-root : goal.returns-in_err-root
+returns-in_err-root c = IfOk-from_err c.from_residual-in_err-root.result _ c.from_residual-in_err-root.ensures.0
 
 pub returns : goal.returns
 returns c =
-    let told = c.in-ok-root.ensures in
-    let given = c.in-ok-given.ensures in (
+    let told = c.in_ok-root.ensures in
+    let given = c.in_ok-given.ensures in (
       told.1,
       recorded c.args.levels c.args.place c.args.self.now.last (Some c.args.content.now) c.deref.result.now c.deref-2.result.now c.args.self.now.numbers.0 (vec_items c.args.out.now) (vec_items c.put-root.new.out)
           (ap (map (λ (k : Key). k.bytes)) c.deref.ensures.value ∙ given.2)
