@@ -15,34 +15,34 @@ use Rattle.descent.proofs.Beside.{one_more}
 use Rattle.descent.proofs.LastRow.{collected}
 use Rattle.descent.proofs.path.collect.Goals as goal
 
-pub returns-in-err-open-row : goal.returns-in-err-open-row
-returns-in-err-open-row g c =
-    let p = err_from_is_err_and c.from-residual.result c.from-residual.ensures.1 in
+pub returns-in_err-open_row : goal.returns-in_err-open_row
+returns-in_err-open_row g c =
+    let p = err_from_is_err_and c.from_residual.result c.from_residual.ensures.1 in
     let G = c.loop-g.g in
     let levels = c.args.levels in
     let place = c.args.place in
     let lg : G < levels = omega arith in
-    let at = c.sibling-beside.ensures ∙ ap sibling_of (c.ancestor-on-path.ensures ∙ ap (λ n. (n + place) / 2 ^ (levels - 1 - G)) c.places.ensures) in
+    let at = c.sibling-beside.ensures ∙ ap sibling_of (c.ancestor-on_path.ensures ∙ ap (λ n. (n + place) / 2 ^ (levels - 1 - G)) c.places.ensures) in
     let ends =
-    ended_row g.S.Sealing.sealed g.met.S.Sealing.long g.met.S.Sealing.apart levels place G (beside (place / 2 ^ (levels - 1 - G))) c.sibling-beside.result.number (rows_of c.args.index.now) c.args.key.now.bytes (g.M.Medium.log c.args.medium.now) (g.M.Medium.log c.loop-g.medium) (g.M.Medium.log c.open-row.new.medium) c.loop-g.key.bytes c.loop-g.key.long
-    (sibling_hangs levels place G c.sibling-beside.result.number lg c.requires.1.1.0 at) c.loop-g.invariant.0 c.loop-g.invariant.1 (Unit {0}) c.in-err-open-row.field-0.0 c.key.result (key_in c.open-row.new.held) (sym c.key.ensures) c.in-err-open-row.ensures in
-    rw (p.1, p.2) record { same = ends.0; running = row_runs (Unit {0}) g.S.Sealing.sealed c.sibling-beside.result.number c.key.result c.loop-g.key.bytes (g.M.Medium.log c.loop-g.medium) (g.M.Medium.log c.open-row.new.medium) (Err c.in-err-open-row.field-0.0) (key_in c.open-row.new.held) c.in-err-open-row.ensures; all = ends.1 }
+    ended_row g.S.Sealing.sealed g.met.S.Sealing.long g.met.S.Sealing.apart levels place G (beside (place / 2 ^ (levels - 1 - G))) c.sibling-beside.result.number (rows_of c.args.index.now) c.args.key.now.bytes (g.M.Medium.log c.args.medium.now) (g.M.Medium.log c.loop-g.medium) (g.M.Medium.log c.open_row.new.medium) c.loop-g.key.bytes c.loop-g.key.long
+    (sibling_hangs levels place G c.sibling-beside.result.number lg c.requires.1.1.0 at) c.loop-g.invariant.0 c.loop-g.invariant.1 (Unit {0}) c.in_err-open_row.field-0.0 c.key.result (key_in c.open_row.new.held) (sym c.key.ensures) c.in_err-open_row.ensures in
+    rw (p.1, p.2) record { same = ends.0; running = row_runs (Unit {0}) g.S.Sealing.sealed c.sibling-beside.result.number c.key.result c.loop-g.key.bytes (g.M.Medium.log c.loop-g.medium) (g.M.Medium.log c.open_row.new.medium) (Err c.in_err-open_row.field-0.0) (key_in c.open_row.new.held) c.in_err-open_row.ensures; all = ends.1 }
 
-pub returns-in-err-follow : goal.returns-in-err-follow
-returns-in-err-follow g c =
-    let p = err_from_is_err_and c.from-residual-in-err-follow.result c.from-residual-in-err-follow.ensures.1 in
+pub returns-in_err-follow : goal.returns-in_err-follow
+returns-in_err-follow g c =
+    let p = err_from_is_err_and c.from_residual-in_err-follow.result c.from_residual-in_err-follow.ensures.1 in
     let G = c.loop-g.g in
     let levels = c.args.levels in
     let place = c.args.place in
     let lg : G < levels = omega arith in
-    let up = c.ancestor-on-path.ensures ∙ ap (λ n. (n + place) / 2 ^ (levels - 1 - G)) c.places.ensures in
+    let up = c.ancestor-on_path.ensures ∙ ap (λ n. (n + place) / 2 ^ (levels - 1 - G)) c.places.ensures in
     let sib =
-    opened_row g.S.Sealing.sealed g.met.S.Sealing.long g.met.S.Sealing.apart levels place G (beside (place / 2 ^ (levels - 1 - G))) c.sibling-beside.result.number (rows_of c.args.index.now) c.args.key.now.bytes (g.M.Medium.log c.args.medium.now) (g.M.Medium.log c.loop-g.medium) (g.M.Medium.log c.open-row.new.medium) c.loop-g.key.bytes c.loop-g.key.long
-    (sibling_hangs levels place G c.sibling-beside.result.number lg c.requires.1.1.0 (c.sibling-beside.ensures ∙ ap sibling_of up)) c.loop-g.invariant.0 c.loop-g.invariant.1 (Unit {0}) c.in-ok-open-row.field-0 c.key.result (key_in c.open-row.new.held) (sym c.key.ensures) c.in-ok-open-row.ensures in
+    opened_row g.S.Sealing.sealed g.met.S.Sealing.long g.met.S.Sealing.apart levels place G (beside (place / 2 ^ (levels - 1 - G))) c.sibling-beside.result.number (rows_of c.args.index.now) c.args.key.now.bytes (g.M.Medium.log c.args.medium.now) (g.M.Medium.log c.loop-g.medium) (g.M.Medium.log c.open_row.new.medium) c.loop-g.key.bytes c.loop-g.key.long
+    (sibling_hangs levels place G c.sibling-beside.result.number lg c.requires.1.1.0 (c.sibling-beside.ensures ∙ ap sibling_of up)) c.loop-g.invariant.0 c.loop-g.invariant.1 (Unit {0}) c.in_ok-open_row.field-0 c.key.result (key_in c.open_row.new.held) (sym c.key.ensures) c.in_ok-open_row.ensures in
     let ends =
-    unfollowed_row g.S.Sealing.sealed g.met.S.Sealing.long g.met.S.Sealing.apart levels place G (place / 2 ^ (levels - 1 - G)) c.ancestor-on-path.result.number (rows_of c.args.index.now) c.args.key.now.bytes (g.M.Medium.log c.args.medium.now) (g.M.Medium.log c.open-row.new.medium) (g.M.Medium.log c.follow.new.medium) c.loop-g.key.bytes c.loop-g.key.long
-    (path_hangs levels place G c.ancestor-on-path.result.number lg c.requires.1.1.0 up) sib.unchanged (λ first last t f s. c.loop-g.invariant.1 first last t (sib.still first f) s) (Unit {0}) c.in-err-follow.field-0.0 c.key-in-loop-g.result c.follow.new.key.bytes (sym c.key-in-loop-g.ensures) c.in-err-follow.ensures in
-    rw (p.1, p.2) record { same = ends.0; running = follow_runs (Unit {0}) g.S.Sealing.sealed c.ancestor-on-path.result.number c.key-in-loop-g.result c.loop-g.key.bytes (g.M.Medium.log c.open-row.new.medium) (g.M.Medium.log c.follow.new.medium) c.in-err-follow.field-0.0 c.follow.new.key.bytes c.in-err-follow.ensures; all = ends.1 }
+    unfollowed_row g.S.Sealing.sealed g.met.S.Sealing.long g.met.S.Sealing.apart levels place G (place / 2 ^ (levels - 1 - G)) c.ancestor-on_path.result.number (rows_of c.args.index.now) c.args.key.now.bytes (g.M.Medium.log c.args.medium.now) (g.M.Medium.log c.open_row.new.medium) (g.M.Medium.log c.follow.new.medium) c.loop-g.key.bytes c.loop-g.key.long
+    (path_hangs levels place G c.ancestor-on_path.result.number lg c.requires.1.1.0 up) sib.unchanged (λ first last t f s. c.loop-g.invariant.1 first last t (sib.still first f) s) (Unit {0}) c.in_err-follow.field-0.0 c.key-in-loop-g.result c.follow.new.key.bytes (sym c.key-in-loop-g.ensures) c.in_err-follow.ensures in
+    rw (p.1, p.2) record { same = ends.0; running = follow_runs (Unit {0}) g.S.Sealing.sealed c.ancestor-on_path.result.number c.key-in-loop-g.result c.loop-g.key.bytes (g.M.Medium.log c.open_row.new.medium) (g.M.Medium.log c.follow.new.medium) c.in_err-follow.field-0.0 c.follow.new.key.bytes c.in_err-follow.ensures; all = ends.1 }
 
 pub loop-g-preserved : goal.loop-g-preserved
 loop-g-preserved g c =
@@ -50,20 +50,20 @@ loop-g-preserved g c =
     let levels = c.args.levels in
     let place = c.args.place in
     let lg : G < levels = omega arith in
-    let up = c.ancestor-on-path.ensures ∙ ap (λ n. (n + place) / 2 ^ (levels - 1 - G)) c.places.ensures in
+    let up = c.ancestor-on_path.ensures ∙ ap (λ n. (n + place) / 2 ^ (levels - 1 - G)) c.places.ensures in
     let one : suc G ≡ G + 1 = omega arith in
     let left : levels - 1 - G ≡ levels - (G + 1) = omega arith in
     let sib =
-    opened_row g.S.Sealing.sealed g.met.S.Sealing.long g.met.S.Sealing.apart levels place G (beside (place / 2 ^ (levels - 1 - G))) c.sibling-beside.result.number (rows_of c.args.index.now) c.args.key.now.bytes (g.M.Medium.log c.args.medium.now) (g.M.Medium.log c.loop-g.medium) (g.M.Medium.log c.open-row.new.medium) c.loop-g.key.bytes c.loop-g.key.long
-    (sibling_hangs levels place G c.sibling-beside.result.number lg c.requires.1.1.0 (c.sibling-beside.ensures ∙ ap sibling_of up)) c.loop-g.invariant.0 c.loop-g.invariant.1 (Unit {0}) c.in-ok-open-row.field-0 c.key.result (key_in c.open-row.new.held) (sym c.key.ensures) c.in-ok-open-row.ensures in
+    opened_row g.S.Sealing.sealed g.met.S.Sealing.long g.met.S.Sealing.apart levels place G (beside (place / 2 ^ (levels - 1 - G))) c.sibling-beside.result.number (rows_of c.args.index.now) c.args.key.now.bytes (g.M.Medium.log c.args.medium.now) (g.M.Medium.log c.loop-g.medium) (g.M.Medium.log c.open_row.new.medium) c.loop-g.key.bytes c.loop-g.key.long
+    (sibling_hangs levels place G c.sibling-beside.result.number lg c.requires.1.1.0 (c.sibling-beside.ensures ∙ ap sibling_of up)) c.loop-g.invariant.0 c.loop-g.invariant.1 (Unit {0}) c.in_ok-open_row.field-0 c.key.result (key_in c.open_row.new.held) (sym c.key.ensures) c.in_ok-open_row.ensures in
     let down =
-    followed_row g.S.Sealing.sealed g.met.S.Sealing.long g.met.S.Sealing.apart levels place G (place / 2 ^ (levels - 1 - G)) c.ancestor-on-path.result.number (rows_of c.args.index.now) c.args.key.now.bytes (g.M.Medium.log c.args.medium.now) (g.M.Medium.log c.open-row.new.medium) (g.M.Medium.log c.follow.new.medium) c.loop-g.key.bytes c.loop-g.key.long
-    (path_hangs levels place G c.ancestor-on-path.result.number lg c.requires.1.1.0 up) sib.unchanged (λ first last t f s. c.loop-g.invariant.1 first last t (sib.still first f) s) (Unit {0}) c.in-ok-follow.field-0 c.key-in-loop-g.result c.follow.new.key.bytes c.follow.new.key.long (sym c.key-in-loop-g.ensures) c.in-ok-follow.ensures in (
+    followed_row g.S.Sealing.sealed g.met.S.Sealing.long g.met.S.Sealing.apart levels place G (place / 2 ^ (levels - 1 - G)) c.ancestor-on_path.result.number (rows_of c.args.index.now) c.args.key.now.bytes (g.M.Medium.log c.args.medium.now) (g.M.Medium.log c.open_row.new.medium) (g.M.Medium.log c.follow.new.medium) c.loop-g.key.bytes c.loop-g.key.long
+    (path_hangs levels place G c.ancestor-on_path.result.number lg c.requires.1.1.0 up) sib.unchanged (λ first last t f s. c.loop-g.invariant.1 first last t (sib.still first f) s) (Unit {0}) c.in_ok-follow.field-0 c.key-in-loop-g.result c.follow.new.key.bytes c.follow.new.key.long (sym c.key-in-loop-g.ensures) c.in_ok-follow.ensures in (
       down.unchanged,
       (λ first last t f s k is. down.known first last t f s k (ap (λ x. key_of (place_in (suc G) (place / 2 ^ x) t)) left ∙ ap (λ x. key_of (place_in x (place / 2 ^ (levels - (G + 1))) t)) one ∙ is)),
       (λ first last t f s.
           let f1 = down.still first f in
-          one_more levels place G c.loop-g.siblings c.open-row.new.held t lg (omega arith) (sib.known first last t f1 s) (c.loop-g.invariant.2 first last t (sib.still first f1) s)),
+          one_more levels place G c.loop-g.siblings c.open_row.new.held t lg (omega arith) (sib.known first last t f1 s) (c.loop-g.invariant.2 first last t (sib.still first f1) s)),
     )
 
 pub returns : goal.returns
@@ -73,6 +73,6 @@ returns g c =
     let end : suc c.loop-g.g ≡ levels = omega arith in
     let long : levels ≤ length c.loop-g.siblings = omega arith in
     let last =
-    collected g.S.Sealing.sealed g.met.S.Sealing.long g.met.S.Sealing.apart levels place c.loop-g.g c.sibling-last.result.number (rows_of c.args.index.now) c.args.key.now.bytes (g.M.Medium.log c.args.medium.now) (g.M.Medium.log c.loop-g.medium) (g.M.Medium.log c.open-row-2.new.medium) c.loop-g.key.bytes c.loop-g.key.long
-    c.loop-g.siblings c.open-row-2.new.held end c.requires.1.1.0 long (c.sibling-last.ensures ∙ ap (λ n. sibling_of (n + place)) c.places.ensures) c.key-2.result (sym c.key-2.ensures) c.loop-g.invariant.0 c.loop-g.invariant.1 c.loop-g.invariant.2 c.open-row-2.result c.open-row-2.ensures in
-    record { same = last.0; running = row_runs (Unit {0}) g.S.Sealing.sealed c.sibling-last.result.number c.key-2.result c.loop-g.key.bytes (g.M.Medium.log c.loop-g.medium) (g.M.Medium.log c.open-row-2.new.medium) c.open-row-2.result (key_in c.open-row-2.new.held) c.open-row-2.ensures; all = last.1 }
+    collected g.S.Sealing.sealed g.met.S.Sealing.long g.met.S.Sealing.apart levels place c.loop-g.g c.sibling-last.result.number (rows_of c.args.index.now) c.args.key.now.bytes (g.M.Medium.log c.args.medium.now) (g.M.Medium.log c.loop-g.medium) (g.M.Medium.log c.open_row-2.new.medium) c.loop-g.key.bytes c.loop-g.key.long
+    c.loop-g.siblings c.open_row-2.new.held end c.requires.1.1.0 long (c.sibling-last.ensures ∙ ap (λ n. sibling_of (n + place)) c.places.ensures) c.key-2.result (sym c.key-2.ensures) c.loop-g.invariant.0 c.loop-g.invariant.1 c.loop-g.invariant.2 c.open_row-2.result c.open_row-2.ensures in
+    record { same = last.0; running = row_runs (Unit {0}) g.S.Sealing.sealed c.sibling-last.result.number c.key-2.result c.loop-g.key.bytes (g.M.Medium.log c.loop-g.medium) (g.M.Medium.log c.open_row-2.new.medium) c.open_row-2.result (key_in c.open_row-2.new.held) c.open_row-2.ensures; all = last.1 }

@@ -11,43 +11,43 @@ use Rattle.descent.proofs.path.descend.Goals as goal
 pub loop-g-init : goal.loop-g-init
 loop-g-init g c = (refl, λ first last t f s. s.top)
 
-pub returns-in-default : goal.returns-in-default
-returns-in-default g c =
+pub returns-in_default : goal.returns-in_default
+returns-in_default g c =
     let G = c.loop-g.g in
     let levels = c.args.levels in
     let place = c.args.place in
-    let at = c.ancestor-on-path.ensures ∙ ap (λ n. (n + place) / 2 ^ (levels - 1 - G)) c.places.ensures in
+    let at = c.ancestor-on_path.ensures ∙ ap (λ n. (n + place) / 2 ^ (levels - 1 - G)) c.places.ensures in
     record {
       same = c.loop-g.invariant.0;
-      down = no_row g.S.Sealing.sealed levels place G c.ancestor-on-path.result.number (rows_of c.args.index.now) c.args.key.now.bytes (g.M.Medium.log c.args.medium.now) (g.M.Medium.log c.loop-g.medium) c.loop-g-test.true c.requires.1 at (sym c.in-default.ensures);
+      down = no_row g.S.Sealing.sealed levels place G c.ancestor-on_path.result.number (rows_of c.args.index.now) c.args.key.now.bytes (g.M.Medium.log c.args.medium.now) (g.M.Medium.log c.loop-g.medium) c.loop-g-test.true c.requires.1 at (sym c.in_default.ensures);
     }
 
-pub returns-in-err-step-down : goal.returns-in-err-step-down
-returns-in-err-step-down g c =
-    let p = err_from_is_err_and c.from-residual.result c.from-residual.ensures.1 in
+pub returns-in_err-step_down : goal.returns-in_err-step_down
+returns-in_err-step_down g c =
+    let p = err_from_is_err_and c.from_residual.result c.from_residual.ensures.1 in
     let G = c.loop-g.g in
     let levels = c.args.levels in
     let place = c.args.place in
-    let n = c.ancestor-on-path.result.number in
-    let at = c.ancestor-on-path.ensures ∙ ap (λ n. (n + place) / 2 ^ (levels - 1 - G)) c.places.ensures in
+    let n = c.ancestor-on_path.result.number in
+    let at = c.ancestor-on_path.ensures ∙ ap (λ n. (n + place) / 2 ^ (levels - 1 - G)) c.places.ensures in
     let ends =
-    turn-ends g.S.Sealing.sealed g.met.S.Sealing.long g.met.S.Sealing.apart levels place G (place / 2 ^ (levels - 1 - G)) n c.in-Sealed.number c.in-Sealed.under c.in-Sealed.offset (rows_of c.args.index.now) c.args.key.now.bytes (g.M.Medium.log c.args.medium.now) (g.M.Medium.log c.loop-g.medium) (g.M.Medium.log c.step-down.new.medium) c.loop-g.key.bytes
-    (path_hangs levels place G n c.loop-g-test.true c.requires.1 at) (sym c.in-Sealed.ensures) c.loop-g.invariant.0 c.loop-g.invariant.1 (Unit {0}) c.in-err-step-down.field-0.0 c.step-down.new.key.bytes c.in-err-step-down.ensures in
-    rw (p.1, p.2) record { same = ends.0; down = λ first last t f s. fails_ends c.in-err-step-down.field-0.0 (content_of (place_in levels place t)) (ends.1 first last t f s) }
+    turn-ends g.S.Sealing.sealed g.met.S.Sealing.long g.met.S.Sealing.apart levels place G (place / 2 ^ (levels - 1 - G)) n c.in-Sealed.number c.in-Sealed.under c.in-Sealed.offset (rows_of c.args.index.now) c.args.key.now.bytes (g.M.Medium.log c.args.medium.now) (g.M.Medium.log c.loop-g.medium) (g.M.Medium.log c.step_down.new.medium) c.loop-g.key.bytes
+    (path_hangs levels place G n c.loop-g-test.true c.requires.1 at) (sym c.in-Sealed.ensures) c.loop-g.invariant.0 c.loop-g.invariant.1 (Unit {0}) c.in_err-step_down.field-0.0 c.step_down.new.key.bytes c.in_err-step_down.ensures in
+    rw (p.1, p.2) record { same = ends.0; down = λ first last t f s. fails_ends c.in_err-step_down.field-0.0 (content_of (place_in levels place t)) (ends.1 first last t f s) }
 
 pub loop-g-preserved : goal.loop-g-preserved
 loop-g-preserved g c =
     let G = c.loop-g.g in
     let levels = c.args.levels in
     let place = c.args.place in
-    let n = c.ancestor-on-path.result.number in
-    let at = c.ancestor-on-path.ensures ∙ ap (λ n. (n + place) / 2 ^ (levels - 1 - G)) c.places.ensures in
-    let o = c.in-ok-step-down.ensures in
+    let n = c.ancestor-on_path.result.number in
+    let at = c.ancestor-on_path.ensures ∙ ap (λ n. (n + place) / 2 ^ (levels - 1 - G)) c.places.ensures in
+    let o = c.in_ok-step_down.ensures in
     let one : suc G ≡ G + 1 = omega arith in
     let left : levels - 1 - G ≡ levels - (G + 1) = omega arith in
     let down =
-    turn_down g.S.Sealing.sealed g.met.S.Sealing.long g.met.S.Sealing.apart levels place G (place / 2 ^ (levels - 1 - G)) n c.in-Sealed.number c.in-Sealed.under c.in-Sealed.offset (rows_of c.args.index.now) c.args.key.now.bytes (g.M.Medium.log c.args.medium.now) (g.M.Medium.log c.loop-g.medium) (g.M.Medium.log c.step-down.new.medium) c.loop-g.key.bytes
-    (path_hangs levels place G n c.loop-g-test.true c.requires.1 at) (sym c.in-Sealed.ensures) c.loop-g.invariant.0 c.loop-g.invariant.1 c.step-down.new.key.bytes c.loop-g.key.long c.step-down.new.key.long o in (
+    turn_down g.S.Sealing.sealed g.met.S.Sealing.long g.met.S.Sealing.apart levels place G (place / 2 ^ (levels - 1 - G)) n c.in-Sealed.number c.in-Sealed.under c.in-Sealed.offset (rows_of c.args.index.now) c.args.key.now.bytes (g.M.Medium.log c.args.medium.now) (g.M.Medium.log c.loop-g.medium) (g.M.Medium.log c.step_down.new.medium) c.loop-g.key.bytes
+    (path_hangs levels place G n c.loop-g-test.true c.requires.1 at) (sym c.in-Sealed.ensures) c.loop-g.invariant.0 c.loop-g.invariant.1 c.step_down.new.key.bytes c.loop-g.key.long c.step_down.new.key.long o in (
       ap changes o ∙ changes-got _ _ _ ∙ c.loop-g.invariant.0,
       λ first last t f s k is. down first last t f s k (ap (λ x. key_of (place_in (suc G) (place / 2 ^ x) t)) left ∙ ap (λ x. key_of (place_in x (place / 2 ^ (levels - (G + 1))) t)) one ∙ is),
     )
