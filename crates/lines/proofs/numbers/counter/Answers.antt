@@ -3,26 +3,26 @@ use Rattle.lines.specs.Numbers.{onward, narrow, number}
 use Rattle.lines.proofs.Digits.{stops, goes, overflows, ends}
 use Rattle.lines.proofs.numbers.counter.Goals as goal
 
-pub returns-then-not-is-ascii-digit : goal.returns-then-not-is-ascii-digit
-returns-then-not-is-ascii-digit c =
-    stops c.args.text.now c.loop-letter.letter-index c.loop-letter.number _ c.loop-letter-test.true c.loop-letter.invariant.1 c.if-not-is-ascii-digit.ensures.value
+pub returns-then-not-is_ascii_digit : goal.returns-then-not-is_ascii_digit
+returns-then-not-is_ascii_digit c =
+    stops c.args.text.now c.loop-letter.letter-index c.loop-letter.number _ c.loop-letter-test.true c.loop-letter.invariant.1 c.if-not-is_ascii_digit.ensures.value
 
-pub returns-in-err-checked-mul : goal.returns-in-err-checked-mul
-returns-in-err-checked-mul c =
-    c.from-residual.ensures
-    ∙ overflows c.args.text.now c.loop-letter.letter-index c.loop-letter.number _ c.loop-letter-test.true c.loop-letter.invariant.1 c.if-not-is-ascii-digit.ensures.value (omega (arith, c.in-err-checked-mul.ensures))
+pub returns-in_err-checked_mul : goal.returns-in_err-checked_mul
+returns-in_err-checked_mul c =
+    c.from_residual.ensures
+    ∙ overflows c.args.text.now c.loop-letter.letter-index c.loop-letter.number _ c.loop-letter-test.true c.loop-letter.invariant.1 c.if-not-is_ascii_digit.ensures.value (omega (arith, c.in_err-checked_mul.ensures))
 
-pub returns-in-err-number : goal.returns-in-err-number
-returns-in-err-number c =
-    c.from-residual-in-err-number.ensures
-    ∙ overflows c.args.text.now c.loop-letter.letter-index c.loop-letter.number _ c.loop-letter-test.true c.loop-letter.invariant.1 c.if-not-is-ascii-digit.ensures.value (omega (arith, c.in-ok-checked-mul.ensures, c.in-err-number.ensures))
+pub returns-in_err-number : goal.returns-in_err-number
+returns-in_err-number c =
+    c.from_residual-in_err-number.ensures
+    ∙ overflows c.args.text.now c.loop-letter.letter-index c.loop-letter.number _ c.loop-letter-test.true c.loop-letter.invariant.1 c.if-not-is_ascii_digit.ensures.value (omega (arith, c.in_ok-checked_mul.ensures, c.in_err-number.ensures))
 
 pub loop-letter-preserved : goal.loop-letter-preserved
 loop-letter-preserved c =
     let text = c.args.text.now in
     let i : ℕ = c.loop-letter.letter-index in
-    let is : c.in-ok-number.number ≡ c.loop-letter.number * 10 + (get_or text i 0 - 48) = omega (arith, c.in-ok-checked-mul.ensures, c.in-ok-number.ensures) in
-    (omega (arith, c.in-ok-number.ensures), rw is (goes text i c.loop-letter.number _ c.loop-letter-test.true c.loop-letter.invariant.1 c.if-not-is-ascii-digit.ensures.value))
+    let is : c.in_ok-number.number ≡ c.loop-letter.number * 10 + (get_or text i 0 - 48) = omega (arith, c.in_ok-checked_mul.ensures, c.in_ok-number.ensures) in
+    (omega (arith, c.in_ok-number.ensures), rw is (goes text i c.loop-letter.number _ c.loop-letter-test.true c.loop-letter.invariant.1 c.if-not-is_ascii_digit.ensures.value))
 
 pub returns : goal.returns
 returns c =

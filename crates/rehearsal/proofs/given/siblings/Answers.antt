@@ -7,8 +7,8 @@ use Rattle.rehearsal.proofs.given.siblings.Goals as goal
 
 pub loop-h-init : goal.loop-h-init
 loop-h-init c =
-    let begun = c.in-ok-nodes.ensures in
-    (begun.len, begun.capacity, sym (div-one c.args.start.number), no_sibling c.args.start.number c.args.numbers.now.0 (vec_items c.in-ok-nodes.nodes) begun.items)
+    let begun = c.in_ok-nodes.ensures in
+    (begun.len, begun.capacity, sym (div-one c.args.start.number), no_sibling c.args.start.number c.args.numbers.now.0 (vec_items c.in_ok-nodes.nodes) begun.items)
 
 pub loop-h-preserved : goal.loop-h-preserved
 loop-h-preserved c =
@@ -16,8 +16,8 @@ loop-h-preserved c =
       omega arith,
       omega arith,
       half_more c.args.start.number c.loop-h._h c.loop-h.node.number c.parent-node.result.number way c.parent-node.ensures,
-      ap (map key_in) c.push-reserved.ensures.items
-          ∙ one_sibling c.args.start.number c.loop-h._h c.args.numbers.now.0 (vec_items c.loop-h.nodes) c.node-of.result c.loop-h.invariant.3
-          (c.node-of.ensures
+      ap (map key_in) c.push_reserved.ensures.items
+          ∙ one_sibling c.args.start.number c.loop-h._h c.args.numbers.now.0 (vec_items c.loop-h.nodes) c.node_of.result c.loop-h.invariant.3
+          (c.node_of.ensures
           ∙ ap keyed (c.of.ensures ∙ ap (λ (n : ℕ). get_or c.args.numbers.now.0 n None) (c.sibling.ensures ∙ ap sibling_of way))),
     )

@@ -14,11 +14,11 @@ returns c =
     let told = c.in-Opened.ensures.value in
     let same : c.deref.result.now ≡ whole = c.deref.ensures.value in
     let long : length c.in-Some.content.now ≡ length whole - 16 = omega (arith, parts.2, ap length same) in
-    let text : c.deref-mut.result.now ≡ front whole = c.deref-mut.ensures.value ∙ c.truncate.ensures.items ∙ ap (λ n. take n whole) long in
+    let text : c.deref_mut.result.now ≡ front whole = c.deref_mut.ensures.value ∙ c.truncate.ensures.items ∙ ap (λ n. take n whole) long in
     let mark : c.in-Some.mark.now ≡ back whole = parts.1 ∙ ap (λ l. drop (length l - 16) l) same in
     let by-text : List ℕ → Type 0 = λ l. Authentic key nonce marked l (back whole) in
-    let by-mark : List ℕ → Type 0 = λ l. Authentic key nonce marked c.deref-mut.result.now l in (
+    let by-mark : List ℕ → Type 0 = λ l. Authentic key nonce marked c.deref_mut.result.now l in (
       omega (arith, parts.2, ap length same),
       subst by-text text (subst by-mark mark told.0),
-      written (ciphertext key nonce) _ c.deref-mut.result.now (front whole) c.open.new.sealed _ (omega arith) text told.1,
+      written (ciphertext key nonce) _ c.deref_mut.result.now (front whole) c.open.new.sealed _ (omega arith) text told.1,
     )

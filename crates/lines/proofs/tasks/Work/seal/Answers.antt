@@ -5,12 +5,12 @@ use Rattle.lines.proofs.tasks.Work.seal.Goals as goal
 
 pub returns : goal.returns
 returns c =
-    let same = c.deref-mut.ensures.value in
-    let told = c.in-ok-mark.ensures.value in
+    let same = c.deref_mut.ensures.value in
+    let told = c.in_ok-mark.ensures.value in
     let fits : List ℕ → Type 0 = λ l. length l ≤ longest in
     let key : List ℕ = c.args.key.now.bytes in
     let nonce : List ℕ = c.args.nonce.now.0 in (
       subst fits same told.0,
-      c.in-ok-extend-from-slice.ensures.items
-          ∙ written_marked (ciphertext key nonce) (tag key nonce c.args.marked.now) _ c.deref-mut.result.now (vec_items c.args.content) c.seal.new.text _ c.in-ok-mark.mark.0 (omega arith) same told.1 told.2,
+      c.in_ok-extend_from_slice.ensures.items
+          ∙ written_marked (ciphertext key nonce) (tag key nonce c.args.marked.now) _ c.deref_mut.result.now (vec_items c.args.content) c.seal.new.text _ c.in_ok-mark.mark.0 (omega arith) same told.1 told.2,
     )
