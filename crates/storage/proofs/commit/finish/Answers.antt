@@ -15,9 +15,9 @@ returns-in-Err g c =
     let P : List ℕ → Type 0 = λ b. Commits {X = Unit {0}} g.C.Chip.holds g.C.Chip.given c.args.records.now (record { number = c.args.number; bytes = b }) (g.M.Medium.log c.args.medium.now) (g.M.Medium.log c.commit-done.new.medium) c.args.seat.now (Err c.in-Err.why) c.commit-done.new.seat in
     let d = subst P key c.in-Err.ensures in
     let before : State = record { log = g.M.Medium.log c.args.medium.now; rows = rows_of c.args.index.now; end = c.args.end.now; chip = chip_in g.C.Chip.holds c.args.seat.now; given = given_in g.C.Chip.given c.args.seat.now; keys = c.args.keys.now } in
-    let after : State = record { log = g.M.Medium.log c.commit-done.new.medium; rows = rows_of c.args.index.now; end = c.args.end.now; chip = chip_in g.C.Chip.holds c.commit-done.new.seat; given = given_in g.C.Chip.given c.commit-done.new.seat; keys = c.wipe-keys.new.keys } in
+    let after : State = record { log = g.M.Medium.log c.commit-done.new.medium; rows = rows_of c.args.index.now; end = c.args.end.now; chip = chip_in g.C.Chip.holds c.commit-done.new.seat; given = given_in g.C.Chip.given c.commit-done.new.seat; keys = c.wipe_keys.new.keys } in
     let Q : Failure → Type 0 = λ why. Finishes {X = Unit {0}} c.args.levels c.args.records.now (record { number = c.args.number; bytes = bytes_in c.args.keys.now c.args.i }) before (Err why) after in
-    subst Q (sym d.0) (record { breaks = d.2; chip = d.1; rows = refl; end = refl; wiped = c.wipe-keys.ensures })
+    subst Q (sym d.0) (record { breaks = d.2; chip = d.1; rows = refl; end = refl; wiped = c.wipe_keys.ensures })
 
 pub returns-in-Ok : goal.returns-in-Ok
 returns-in-Ok g c =
@@ -25,4 +25,4 @@ returns-in-Ok g c =
     ap (λ (k : Key). k.bytes) (sym c.index-keys-i.is) ∙ sym (bytes_read c.args.keys.now c.args.i c.index-keys-i.result (omega arith) c.index-keys-i.is) in
     let P : List ℕ → Type 0 = λ b. Commits {X = Unit {0}} g.C.Chip.holds g.C.Chip.given c.args.records.now (record { number = c.args.number; bytes = b }) (g.M.Medium.log c.args.medium.now) (g.M.Medium.log c.commit-done.new.medium) c.args.seat.now (Ok tt) c.commit-done.new.seat in
     let d = subst P key c.in-Ok.ensures in
-    record { lasts = d.1; chip = d.0; rows = c.note-all.ensures; end = refl; wiped = c.wipe-keys.ensures }
+    record { lasts = d.1; chip = d.0; rows = c.note_all.ensures; end = refl; wiped = c.wipe_keys.ensures }

@@ -5,19 +5,19 @@ use Rattle.storage.specs.Prepares.{content_in, record_bytes}
 use Rattle.storage.proofs.Answered.{fails_prepares}
 use Rattle.storage.proofs.prepare.collect_and_write.Goals as goal
 
-pub returns-in-err-collect : goal.returns-in-err-collect
-returns-in-err-collect g c =
-    let p = err_from_is_err_and c.from-residual.result c.from-residual.ensures.1 in
-    let d = c.in-err-collect.ensures in
+pub returns-in_err-collect : goal.returns-in_err-collect
+returns-in_err-collect g c =
+    let p = err_from_is_err_and c.from_residual.result c.from_residual.ensures.1 in
+    let d = c.in_err-collect.ensures in
     rw (p.1, p.2) record {
       same = d.same;
       decides = d.running;
-      prepares = λ first last t f s. fails_prepares g.S.Sealing.sealed c.args.levels c.args.place c.args.last (content_in c.args.what) c.args.keys.now c.in-err-collect.field-0.0 (vec_items c.args.out.now) t (d.all first last t f s);
+      prepares = λ first last t f s. fails_prepares g.S.Sealing.sealed c.args.levels c.args.place c.args.last (content_in c.args.what) c.args.keys.now c.in_err-collect.field-0.0 (vec_items c.args.out.now) t (d.all first last t f s);
     }
 
 pub returns-in-Ok : goal.returns-in-Ok
 returns-in-Ok g c =
-    let d = c.in-ok-collect.ensures in
+    let d = c.in_ok-collect.ensures in
     let w = c.in-Ok.ensures in
     record {
       same = d.same;

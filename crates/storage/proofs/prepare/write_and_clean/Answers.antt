@@ -6,13 +6,13 @@ use Rattle.storage.proofs.prepare.write_and_clean.Goals as goal
 
 pub returns : goal.returns
 returns g c =
-    let root : c.load.new.self.bytes ≡ c.args.root.now.bytes = c.load.ensures ∙ ap (take 32) c.as-bytes.ensures ∙ take_all 32 c.args.root.now.bytes (omega arith) in
-    let w = c.collect-and-write-written.ensures in
+    let root : c.load.new.self.bytes ≡ c.args.root.now.bytes = c.load.ensures ∙ ap (take 32) c.as_bytes.ensures ∙ take_all 32 c.args.root.now.bytes (omega arith) in
+    let w = c.collect_and_write-written.ensures in
     record {
       key = c.wipe.ensures;
       part = refl;
-      room = c.wipe-2.ensures ∙ ap (λ n. replicate n 0) (c.collect-and-write-written.auto.room ∙ c.requires.room);
-      siblings = c.clear-all.ensures;
+      room = c.wipe-2.ensures ∙ ap (λ n. replicate n 0) (c.collect_and_write-written.auto.room ∙ c.requires.room);
+      siblings = c.clear_all.ensures;
       same = w.same;
       decides = w.decides;
       prepares = λ first last t f s.

@@ -7,5 +7,5 @@ pub returns-else-n-buffer : goal.returns-else-n-buffer
 returns-else-n-buffer c =
     let P : Result ℕ Failure → Type 0 = λ r. IfOk r (λ n. n ≤ 4096) in
     let few : c.in-Ok.n ≤ 4096 = subst P c.in-Ok.is c.requires.1 in
-    let is = copied c.in-Ok.n c.copy-from-slice.new.self c.args.room.now c.args.buffer.now (omega arith) c.copy-from-slice.ensures.after in
+    let is = copied c.in-Ok.n c.copy_from_slice.new.self c.args.room.now c.args.buffer.now (omega arith) c.copy_from_slice.ensures.after in
     rw c.in-Ok.is (refl, omega arith, is.0, is.1)

@@ -3,8 +3,8 @@ use Rattle.storage.proofs.Keyless.{none, one_more}
 use Rattle.storage.proofs.wipe.blank_nodes.Goals as goal
 
 pub loop-h-init : goal.loop-h-init
-loop-h-init c = let begun = c.in-ok-nodes.ensures in (begun.len, begun.capacity, none (vec_items c.in-ok-nodes.nodes) begun.items)
+loop-h-init c = let begun = c.in_ok-nodes.ensures in (begun.len, begun.capacity, none (vec_items c.in_ok-nodes.nodes) begun.items)
 
 pub loop-h-preserved : goal.loop-h-preserved
 loop-h-preserved c =
-    (omega arith, omega arith, one_more (vec_items c.loop-h.nodes) (vec_items c.push-reserved.new.self) c.blank-node.result c.push-reserved.ensures.items c.blank-node.ensures c.loop-h.invariant.2)
+    (omega arith, omega arith, one_more (vec_items c.loop-h.nodes) (vec_items c.push_reserved.new.self) c.blank_node.result c.push_reserved.ensures.items c.blank_node.ensures c.loop-h.invariant.2)

@@ -4,4 +4,4 @@ use Rattle.storage.specs.Memory.{Keyless}
 use Rattle.storage.proofs.wipe.blank_nodes.Given as goal
 
 abbrev pub invariant-loop-h : goal.invariant-loop-h
-invariant-loop-h l = (vec_len l.nodes ≡ l.-h) × (l.count ≤ vec_capacity l.nodes) × Keyless (vec_items l.nodes)
+invariant-loop-h l = (vec_len l.nodes ≡ l._h) × (l.count ≤ vec_capacity l.nodes) × Keyless (vec_items l.nodes)
