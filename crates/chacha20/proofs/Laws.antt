@@ -1,5 +1,5 @@
 -- Laws of the definitions: lengths, and the text in parts.
-use Rattle.std.proofs.Common.{◌≡◌, ℕ, zero, suc, ◌+◌, ◌-◌, ◌*◌, ◌/◌, ◌%◌, ◌^◌, ◌<◌, ◌≤◌, ◌⊎◌, List, [], ◌∷◌, ◌++◌, length, get_or, take, drop, set, sym, refl, ap, ◌∙◌, inl, inr, arith}
+use Rattle.std.proofs.Common.{◌≡◌, ℕ, zero, suc, ◌+◌, ◌*◌, ◌/◌, ◌%◌, ◌^◌, ◌<◌, ◌≤◌, ◌⊎◌, List, [], ◌∷◌, ◌++◌, length, get_or, take, drop, sym, refl, ap, ◌∙◌, inl, inr, arith}
 use lib.Lanes.{zip2}
 use lib.Bits.{bit_xor, xor_assoc, xor_self, xor_zero_r}
 use Rattle.std.proofs.lemmas.List.{append_assoc, append-nil, take_more, take_at, take_all, take-take, take-append-drop, drop_at, drop_all, drop-drop, drop-take, length-append, length-take-le, length-drop, length-set}
@@ -8,7 +8,7 @@ use Rattle.octets.specs.Endian.{le_bytes}
 use Rattle.octets.proofs.Laws.{length-le_bytes}
 use Rattle.chacha20.proofs.Places.{length-zip2-le, zip2-append, zip2_twice}
 use Rattle.chacha20.specs.Stream.{advanced}
-use Rattle.chacha20.specs.ChaCha20.{plus, line, double_rounds, initial, serialize, output, block, key_stream, blocks, encrypt}
+use Rattle.chacha20.specs.ChaCha20.{plus, line, double_rounds, initial, serialize, output, block, key_stream, encrypt}
 
 pub serialize-append : (xs ys : List ℕ) → serialize (xs ++ ys) ≡ serialize xs ++ serialize ys
 unfolding serialize

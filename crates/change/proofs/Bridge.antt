@@ -1,13 +1,13 @@
 -- What the turns write is what the records of the change are, as bytes.
-use Rattle.std.proofs.Common.{◌≡◌, ℕ, zero, suc, pred, ◌+◌, ◌-◌, ◌*◌, ◌/◌, ◌%◌, ◌^◌, ◌<◌, ◌≤◌, Bool, true, false, cond, eqb, ◌⊎◌, List, [], ◌∷◌, ◌++◌, Some, None, Option, sym, refl, ap, ◌∙◌, inl, inr, mul_comm, pow-suc, add-one, arith, pow_pos, pow-add}
+use Rattle.std.proofs.Common.{◌≡◌, ℕ, zero, suc, ◌+◌, ◌-◌, ◌*◌, ◌/◌, ◌%◌, ◌^◌, ◌<◌, ◌≤◌, eqb, ◌⊎◌, List, [], ◌∷◌, ◌++◌, Some, None, Option, sym, refl, ap, ◌∙◌, inl, inr, mul_comm, pow-suc, arith, pow_pos, pow-add}
 use native.Mathlib.Nat.{add-mul-div_left, div-eq_of_lt}
 use Rattle.std.proofs.lemmas.List.{append-nil, append_assoc}
 use Rattle.std.proofs.lemmas.Bool.{cases_eq}
 use Rattle.records.specs.Format as Format
 use Rattle.records.specs.Format.{encode}
 use Rattle.forgetting.specs.Secret.{Node, Sealed}
-use Rattle.forgetting.specs.Tree.{sealed_key, to_even, turn}
-use Rattle.forgetting.specs.Change.{Record, sealing, taking, sealings, Numbered, counted}
+use Rattle.forgetting.specs.Tree.{sealed_key, turn}
+use Rattle.forgetting.specs.Change.{Record, sealing, sealings, Numbered, counted}
 use Rattle.forgetting.specs.Tree.{Tree}
 use Rattle.forgetting.specs.Change.{records, single}
 use Rattle.forgetting.specs.History.{root}

@@ -1,8 +1,7 @@
 -- One turn after another.
-use Rattle.std.proofs.Common.{◌≡◌, ℕ, zero, suc, ◌+◌, ◌*◌, ◌/◌, ◌%◌, ◌^◌, ◌<◌, ◌≤◌, List, [], ◌∷◌, ◌++◌, Option, sym, refl, ap, ◌∙◌, pow-suc, add-one, arith}
+use Rattle.std.proofs.Common.{◌≡◌, ℕ, ◌+◌, ◌/◌, ◌^◌, List, ◌++◌, sym, pow-suc, add-one}
 use native.Mathlib.Nat.{div-div-eq-div-mul}
 use Rattle.std.proofs.lemmas.List.{append-nil}
-use Rattle.forgetting.specs.Change.{Numbered}
 use Rattle.sealing.specs.declared.key.Key.{Key}
 use Rattle.change.specs.declared.node.Node.{Node}
 use Rattle.change.specs.Coded.{Cipher}

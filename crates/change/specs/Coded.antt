@@ -3,7 +3,7 @@ use Rattle.std.specs.Prelude.{ℕ, ◌+◌, ◌-◌, ◌^◌, List, [], ◌∷�
 use Rattle.cipher.specs.Sealed.{slot_nonce}
 use Rattle.records.specs.Format as Format
 use Rattle.records.specs.Format.{head, key_tag, content_tag, encode}
-use Rattle.forgetting.specs.Secret.{Node, Sealed, Key, Content}
+use Rattle.forgetting.specs.Secret.{Node, Key, Content}
 use Rattle.forgetting.specs.Change.{Record, sealing, taking, Numbered}
 
 -- A way of sealing: key, nonce, what is marked besides, and the text give the sealed text with its mark.

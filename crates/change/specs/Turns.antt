@@ -1,5 +1,5 @@
 -- What the turns of the loop write, by node numbers and the keys in their order.
-use Rattle.std.specs.Prelude.{ℕ, zero, suc, ◌+◌, ◌/◌, ◌%◌, ◌^◌, List, [], ◌∷◌, ◌++◌, Option}
+use Rattle.std.specs.Prelude.{ℕ, zero, suc, ◌+◌, ◌/◌, ◌%◌, ◌^◌, List, [], ◌++◌, Option}
 use Rattle.forgetting.specs.Change.{Numbered}
 use Rattle.sealing.specs.declared.key.Key.{Key}
 use Rattle.tree.specs.Nodes.{sibling_of}

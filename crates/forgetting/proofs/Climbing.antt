@@ -1,12 +1,11 @@
 -- Going up from the place, level by level, writes the records of the change.
-use Rattle.std.proofs.Common.{◌≡◌, ℕ, zero, suc, pred, ◌+◌, ◌-◌, ◌*◌, ◌/◌, ◌%◌, ◌^◌, ◌<◌, ◌≤◌, Bool, true, false, cond, eqb, List, [], ◌∷◌, ◌++◌, Some, None, Option, sym, refl, ap, ◌∙◌, pow-suc, arith, eq-eqb, ne_eqb, eqb-true}
+use Rattle.std.proofs.Common.{◌≡◌, ℕ, zero, suc, ◌+◌, ◌-◌, ◌*◌, ◌/◌, ◌%◌, ◌^◌, ◌<◌, Bool, true, false, List, ◌++◌, Some, None, Option, sym, refl, ap, ◌∙◌, pow-suc, arith, eq-eqb, ne_eqb, eqb-true}
 use native.Mathlib.Nat.{div-div-eq-div-mul}
 use borrow.Author.Tests.{eqb-false}
 use Rattle.std.proofs.lemmas.List.{append-nil}
-use Rattle.forgetting.specs.Secret.{Node, Sealed, Key, Content}
-use Rattle.forgetting.specs.Tree.{Tree, key_of, even_of, odd_of, child, link, sealed_key, to_even, turn}
-use Rattle.forgetting.specs.Change.{Edit, same, fork, edited, Record, sealing, taking, sealings, is_same, in_turn, records, placed, towards, single}
-use Rattle.forgetting.specs.Climb.{path_node, sibling_node, sibling_key, path_key, first_record, turn_records, climbed, Climbs}
+use Rattle.forgetting.specs.Tree.{Tree, key_of, even_of, odd_of, to_even, turn}
+use Rattle.forgetting.specs.Change.{Edit, same, fork, edited, Record, is_same, records, towards, single}
+use Rattle.forgetting.specs.Climb.{path_node, sibling_key, path_key, turn_records, climbed, Climbs}
 
 -- The change of one place changes something, and leaves the new key at its top.
 towards-changes : {K C : Type 0} (b : Bool) (k : K) (e : Edit K C) → is_same (towards b k e) ≡ false

@@ -1,7 +1,7 @@
 -- Three changes of a store of four places, with keys and contents as numbers, and the records that they write.
 use Rattle.std.specs.Prelude.{◌≡◌, ℕ, List, [], ◌∷◌, Some, None, Option, slice_index}
 use mathlib.Core.List.{Memᴰ}
-use Rattle.forgetting.specs.Secret.{Node, Sealed, Key, Content}
+use Rattle.forgetting.specs.Secret.{Node, Key, Content}
 use Rattle.forgetting.specs.Tree.{Tree, bare}
 use Rattle.forgetting.specs.Change.{Edit, edited, Record, sealing, taking, records, single}
 use Rattle.forgetting.specs.History.{root}

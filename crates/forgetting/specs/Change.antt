@@ -1,7 +1,7 @@
 -- ONE CHANGE: what it leaves, the records that it writes and the keys that it draws.
-use Rattle.std.specs.Prelude.{ℕ, zero, suc, pred, ◌+◌, ◌*◌, ◌/◌, ◌%◌, ◌^◌, Bool, true, false, List, [], ◌∷◌, ◌++◌, Some, None, Option}
-use Rattle.forgetting.specs.Secret.{Node, Sealed, Key, Content}
-use Rattle.forgetting.specs.Tree.{Tree, bare, leaf, node, even_of, odd_of, child, link, to_even, turn}
+use Rattle.std.specs.Prelude.{ℕ, zero, suc, pred, ◌+◌, Bool, true, false, List, [], ◌∷◌, ◌++◌, Some, None, Option}
+use Rattle.forgetting.specs.Secret.{Node, Sealed, Content}
+use Rattle.forgetting.specs.Tree.{Tree, bare, leaf, node, even_of, odd_of, child, link, to_even}
 
 -- A change of any set of places: nothing below here; a content put in, under a new key; what is here taken out; or a new key for this node, and changes on both sides.
 pub data Edit (K C : Type 0) : Type 0 where

@@ -1,6 +1,6 @@
 -- The change of one place as a loop makes it: from the place up, one level at a turn, with the keys of the siblings along the path.
-use Rattle.std.specs.Prelude.{◌≡◌, ℕ, zero, suc, ◌+◌, ◌-◌, ◌/◌, ◌^◌, Bool, true, false, cond, List, [], ◌∷◌, ◌++◌, Some, None, Option, ◌==◌}
-use Rattle.forgetting.specs.Secret.{Node, Sealed, Content}
+use Rattle.std.specs.Prelude.{◌≡◌, ℕ, zero, suc, ◌+◌, ◌-◌, ◌/◌, ◌^◌, cond, List, [], ◌∷◌, ◌++◌, Some, None, Option, ◌==◌}
+use Rattle.forgetting.specs.Secret.{Node, Content}
 use Rattle.forgetting.specs.Tree.{Tree, key_of, even_of, odd_of, sealed_key, to_even, turn}
 use Rattle.forgetting.specs.Change.{Record, sealing, taking, sealings, records, single}
 

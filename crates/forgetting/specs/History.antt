@@ -1,8 +1,8 @@
 -- Changes one after another, from the empty store on, each with new keys.
-use Rattle.std.specs.Prelude.{◌≡◌, ℕ, zero, suc, ◌+◌, ◌^◌, ◌<◌, ◌⊎◌, List, [], ◌∷◌, ◌++◌, length, is_some, Some, None, Option, ◌≢◌}
+use Rattle.std.specs.Prelude.{◌≡◌, ℕ, zero, suc, ◌^◌, ◌<◌, ◌⊎◌, List, [], ◌∷◌, ◌++◌, length, is_some, Some, Option, ◌≢◌}
 use mathlib.Core.List.{Memᴰ}
-use Rattle.forgetting.specs.Secret.{Node, Sealed, Key, Content, under, HasKey, Opens}
-use Rattle.forgetting.specs.Tree.{Tree, bare, leaf, node, key_of, Holds, node_keys, Levels, place_in, content_of}
+use Rattle.forgetting.specs.Secret.{Node, Sealed, Key, Opens}
+use Rattle.forgetting.specs.Tree.{Tree, bare, key_of, Holds, node_keys, place_in, content_of}
 use Rattle.forgetting.specs.Change.{Edit, same, puts, takes, fork, edited, drawn, records, things, single, draws}
 use Rattle.forgetting.specs.Lawful.{Apart, New}
 

@@ -1,7 +1,7 @@
 -- THE LAW between a change and any run of changes: all that a change writes is sealed under keys that it draws; under one key and one nonce just one thing; and each node of the tree that it makes was there before, or has a new key under which just what belongs there is written.
 use Rattle.std.specs.Prelude.{◌≡◌, ℕ, ◌⊎◌, List, [], ◌∷◌, ◌++◌}
 use mathlib.Core.List.{Memᴰ}
-use Rattle.forgetting.specs.Secret.{Node, Sealed, Key, Content, under, slot}
+use Rattle.forgetting.specs.Secret.{Node, Sealed, Content, under, slot}
 use Rattle.forgetting.specs.Tree.{Tree, bare, leaf, node, child, link}
 use Rattle.forgetting.specs.Change.{Edit, edited, drawn, records, things}
 

@@ -1,6 +1,6 @@
 -- The tree of keys over the places.
 use Rattle.std.specs.Prelude.{◌≡◌, ℕ, zero, suc, pred, ◌+◌, ◌*◌, ◌/◌, ◌%◌, ◌^◌, Bool, true, false, ◌⊎◌, List, [], ◌∷◌, ◌++◌, Some, None, Option, ◌==◌}
-use Rattle.forgetting.specs.Secret.{Node, Sealed, Key, Content}
+use Rattle.forgetting.specs.Secret.{Node, Sealed, Key}
 
 -- bare: no key here, nor below. leaf: a place that holds a content, and its key. node: a node above the places, its key, and what hangs on it, the even node first.
 pub data Tree (K C : Type 0) : Type 0 where

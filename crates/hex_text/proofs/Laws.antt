@@ -3,7 +3,7 @@ use Rattle.std.proofs.Common.{◌≡◌, ℕ, ◌+◌, ◌-◌, ◌*◌, ◌/◌
 use native.Mathlib.Nat.{div-add-mod}
 use Rattle.std.proofs.lemmas.List.{at_drop_more}
 use Rattle.std.proofs.lemmas.Bool.Decides.{nat_tests}
-use Rattle.hex_text.specs.Hex.{digit, byte, before, decode, letter, pair, encode, Bytes, Decodes-again}
+use Rattle.hex_text.specs.Hex.{digit, byte, before, decode, letter, pair, encode, Decodes-again}
 
 digit-letter : (d : ℕ) → d < 16 → digit (letter d) ≡ Some d
 digit-letter d h = grind (arith, nat_tests)

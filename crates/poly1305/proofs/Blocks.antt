@@ -4,7 +4,7 @@ use native.Mathlib.Nat.{div-div-eq-div-mul}
 use Rattle.std.proofs.lemmas.List.{length-append, length-take-le, length-drop, length-replicate, take-append-drop, take-take, drop-take, drop-drop, take_all, drop-append-le, append_assoc, append-nil, set-append_right, drop-replicate}
 use Rattle.octets.specs.Endian.{le, le_bytes}
 use Rattle.octets.proofs.Laws.{le-append, le-one, le_zeros, le_bytes-mod}
-use Rattle.poly1305.specs.Poly1305.{prime, clamp, absorb, absorb_all, blocks, padded, mac}
+use Rattle.poly1305.specs.Poly1305.{prime, absorb, absorb_all, blocks, padded}
 use Rattle.poly1305.proofs.Field.{reduced_first}
 use Rattle.poly1305.proofs.Laws.{absorb_all_more, absorb_all-front}
 

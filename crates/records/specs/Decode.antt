@@ -1,6 +1,6 @@
 -- Decoding: the record at the front of a string of bytes, and the rest; or that it ends too early; or that it has another form.
-use Rattle.std.specs.Prelude.{◌≡◌, ℕ, ◌+◌, ◌-◌, ◌*◌, ◌^◌, ◌<◌, ◌≤◌, Bool, true, false, cond, ◌&&◌, List, [], ◌∷◌, ◌++◌, length, take, drop, ◌==◌, nat_le, nat_lt, slice_index}
-use Rattle.records.specs.Format.{Record, key, content, out, encode, Proper, key_tag, content_tag, out_tag, mark_bytes, sealed_key_bytes, longest_content, highest}
+use Rattle.std.specs.Prelude.{ℕ, ◌+◌, ◌*◌, ◌^◌, Bool, cond, ◌&&◌, List, length, take, drop, ◌==◌, nat_le, nat_lt, slice_index}
+use Rattle.records.specs.Format.{Record, key, content, out, key_tag, content_tag, out_tag, longest_content, highest}
 
 pub data Decoded : Type 0 where
   one : (r : Record) (rest : List ℕ) → Decoded

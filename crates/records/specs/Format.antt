@@ -1,5 +1,5 @@
 -- The records of the medium, byte for byte. Numbers have their high byte first.
-use Rattle.std.specs.Prelude.{◌≡◌, ℕ, ◌+◌, ◌-◌, ◌*◌, ◌/◌, ◌%◌, ◌^◌, ◌<◌, ◌≤◌, List, [], ◌∷◌, ◌++◌, length}
+use Rattle.std.specs.Prelude.{◌≡◌, ℕ, ◌+◌, ◌-◌, ◌/◌, ◌%◌, ◌^◌, ◌<◌, ◌≤◌, List, [], ◌∷◌, ◌++◌, length}
 
 -- A record: the key of a node, sealed under the key of that number of the node above; a place's content, sealed under the key of its node; or that a place was taken out, with the number that the next key will have. sealed: with the 16 bytes of its mark.
 pub data Record : Type 0 where

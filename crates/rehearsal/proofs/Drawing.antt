@@ -1,5 +1,5 @@
 -- Keys drawn one after another.
-use Rattle.std.proofs.Common.{◌≡◌, ℕ, ◌+◌, List, [], ◌∷◌, ◌++◌, map, refl, ap, ◌∙◌, add-one}
+use Rattle.std.proofs.Common.{◌≡◌, ℕ, ◌+◌, List, [], ◌∷◌, ◌++◌, map, ap, add-one}
 use mathlib.Core.List.{map-append}
 use Rattle.sealing.specs.declared.key.Key.{Key}
 use Rattle.rehearsal.specs.Keys.{key_of, keys_after}

@@ -1,5 +1,5 @@
 -- The records of a change that is made with the keys after the last number and with the siblings along the path.
-use Rattle.std.proofs.Common.{◌≡◌, ℕ, ◌+◌, ◌/◌, ◌^◌, List, [], ◌∷◌, ◌++◌, map, get_or, None, Option, ap, ◌∙◌, subst, pow-suc, add-one}
+use Rattle.std.proofs.Common.{◌≡◌, ℕ, ◌+◌, ◌/◌, ◌^◌, List, [], ◌∷◌, ◌++◌, map, get_or, None, Option, ap, ◌∙◌, pow-suc, add-one}
 use mathlib.Core.List.{map-append}
 use native.Mathlib.Nat.{div-div-eq-div-mul}
 use Rattle.cipher.specs.Sealed.{transparent}

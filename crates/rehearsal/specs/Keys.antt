@@ -1,5 +1,5 @@
 -- Numbers for keys.
-use Rattle.std.specs.Prelude.{ℕ, zero, suc, ◌+◌, ◌/◌, ◌%◌, ◌^◌, List, [], ◌∷◌, ◌++◌}
+use Rattle.std.specs.Prelude.{ℕ, zero, suc, ◌+◌, ◌/◌, ◌%◌, List, [], ◌∷◌, ◌++◌}
 
 -- The key with a number: the number in 16 bytes, the high byte first, and 16 zeros.
 abbrev pub key_of : ℕ → List ℕ

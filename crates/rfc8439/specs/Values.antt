@@ -1,5 +1,5 @@
 -- Worked values of RFC 8439, as equations of the definitions that the code's contracts cite.
-use Rattle.std.specs.Prelude.{◌≡◌, List, [], ◌∷◌, ◌++◌, reverse, ℕ, codes}
+use Rattle.std.specs.Prelude.{◌≡◌, List, [], ◌∷◌, reverse, ℕ, codes}
 use Rattle.octets.specs.Endian.{le_bytes}
 use Rattle.chacha20.specs.ChaCha20.{quarter_round, block, encrypt}
 use Rattle.poly1305.specs.Poly1305.{mac}

@@ -1,13 +1,13 @@
 -- Laws of sealing, and lemmas on the parts that a mark is made of.
-use Rattle.std.proofs.Common.{◌≡◌, ℕ, zero, suc, ◌+◌, ◌-◌, ◌*◌, ◌/◌, ◌%◌, ◌^◌, ◌<◌, ◌≤◌, List, [], ◌∷◌, ◌++◌, length, take, drop, Ok, Err, Result, sym, refl, ap, ◌∙◌, arith}
+use Rattle.std.proofs.Common.{◌≡◌, ℕ, ◌+◌, List, ◌++◌, length, take, drop, Ok, Err, Result, refl, ap, ◌∙◌, arith}
 use Rattle.std.proofs.lemmas.List.{append-nil, take_at, drop_all, length-append, length-drop}
 use Rattle.chacha20.specs.Stream.{Encrypts}
 use Rattle.octets.specs.Endian.{le, le_bytes}
 use Rattle.octets.proofs.Laws.{length-le_bytes}
 use Rattle.chacha20.proofs.Laws.{length-encrypt, encrypt_twice}
-use Rattle.poly1305.specs.Poly1305.{mac, clamp, absorb_all, blocks, padded}
+use Rattle.poly1305.specs.Poly1305.{clamp, blocks, padded}
 use Rattle.poly1305.proofs.Laws.{mac-padded, length-mac}
-use Rattle.sealing.specs.Aead.{one_time_key, ciphertext, mac_data, tag, longest, Applies, Authentic, Opens, RoundTrip}
+use Rattle.sealing.specs.Aead.{one_time_key, ciphertext, mac_data, tag, longest, Applies, RoundTrip}
 use Rattle.sealing.specs.Work.{absorbed_text}
 
 -- Two words written one after the other into sixteen bytes.

@@ -1,5 +1,5 @@
 -- ChaCha20 and Poly1305 together, as RFC 8439 sections 2.6 and 2.8 have them. Keys, nonces, texts and tags are lists of bytes.
-use Rattle.std.specs.Prelude.{◌≡◌, ℕ, ◌+◌, ◌-◌, ◌*◌, ◌^◌, ◌<◌, ◌≤◌, List, ◌++◌, length, take, Ok, Err, Result}
+use Rattle.std.specs.Prelude.{◌≡◌, ℕ, ◌-◌, ◌*◌, ◌^◌, ◌<◌, ◌≤◌, List, ◌++◌, length, take, Ok, Err, Result}
 use Rattle.octets.specs.Endian.{le_bytes}
 use Rattle.chacha20.specs.ChaCha20.{block, encrypt}
 use Rattle.poly1305.specs.Poly1305.{mac, padded}

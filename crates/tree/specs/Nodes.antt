@@ -1,5 +1,5 @@
 -- Nodes by their numbers: the root is 1, and nodes 2 n and 2 n + 1 hang on node n. With so many levels, place p is node 2 ^ levels + p.
-use Rattle.std.specs.Prelude.{ℕ, ◌+◌, ◌-◌, ◌%◌, ◌^◌, cond, ◌==◌}
+use Rattle.std.specs.Prelude.{ℕ, ◌+◌, ◌-◌, ◌%◌, cond, ◌==◌}
 use Rattle.tree.specs.declared.node.Side.{Side}
 use Rattle.tree.specs.declared.node.Side.TheVariants.{Even, Odd}
 

@@ -1,4 +1,4 @@
-use Rattle.std.proofs.Common.{◌≡◌, [], ◌∷◌, string_bytes, append_assoc}
+use Rattle.std.proofs.Common.{[], ◌∷◌, string_bytes, append_assoc}
 use Rattle.hex_text.proofs.push_byte.Goals as goal
 
 pub returns : goal.returns

@@ -1,4 +1,4 @@
-use Rattle.std.proofs.Common.{◌≡◌, arith}
+use Rattle.std.proofs.Common.{arith}
 use Rattle.std.proofs.lemmas.List.{length-set}
 use Rattle.chacha20.proofs.Places.{zip_more, zip_all}
 use Rattle.chacha20.proofs.rounds.add_words.Goals as goal

@@ -1,4 +1,4 @@
-use Rattle.std.proofs.Common.{◌≡◌, ◌*◌, take, sym, refl, ap, ◌∙◌, arith}
+use Rattle.std.proofs.Common.{◌*◌, sym, refl, ap, ◌∙◌, arith}
 use Rattle.std.proofs.lemmas.List.{take_all}
 use Rattle.chacha20.proofs.Laws.{written_more}
 use Rattle.chacha20.proofs.stream.serialize_into.Goals as goal

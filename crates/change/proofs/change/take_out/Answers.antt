@@ -1,4 +1,4 @@
-use Rattle.std.proofs.Common.{◌≡◌, ℕ, List, ◌++◌, vec_items, sym, ap, ◌∙◌, arith}
+use Rattle.std.proofs.Common.{ℕ, List, ◌++◌, vec_items, sym, ap, ◌∙◌, arith}
 use Rattle.change.proofs.Bridge.{out-bytes}
 use Rattle.change.proofs.Extending.{extends_done}
 use Rattle.change.proofs.change.take_out.Goals as goal

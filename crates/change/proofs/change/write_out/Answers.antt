@@ -1,4 +1,4 @@
-use Rattle.std.proofs.Common.{◌≡◌, vec_items}
+use Rattle.std.proofs.Common.{vec_items}
 use Rattle.change.proofs.Extending.{extends_then, extends_failed, kept_failed}
 use Rattle.change.proofs.change.write_out.Goals as goal
 

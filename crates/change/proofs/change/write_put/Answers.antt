@@ -1,6 +1,4 @@
-use Rattle.std.proofs.Common.{◌≡◌, ℕ, ◌+◌, List, ◌++◌, vec_items, sym, refl, ap, ◌∙◌, arith}
-use Rattle.records.specs.Format.{encode}
-use Rattle.change.specs.Coded.{coded_content}
+use Rattle.std.proofs.Common.{ℕ, List, ◌++◌, vec_items, ap, ◌∙◌, arith}
 use Rattle.change.proofs.Reading.{first_read}
 use Rattle.change.proofs.Extending.{extends_then, extends_failed, kept_failed}
 use Rattle.change.proofs.change.write_put.Goals as goal

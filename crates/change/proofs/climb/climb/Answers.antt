@@ -1,6 +1,6 @@
-use Rattle.std.proofs.Common.{◌≡◌, ℕ, ◌+◌, ◌/◌, ◌^◌, List, ◌++◌, vec_items, sym, refl, ap, ◌∙◌, add-one, arith}
+use Rattle.std.proofs.Common.{ℕ, ◌+◌, ◌/◌, ◌^◌, List, ◌++◌, vec_items, sym, ap, ◌∙◌, arith}
 use Rattle.change.specs.Nodes.{key_in, sibling_in}
-use Rattle.change.specs.Turns.{turn_bytes, turns_bytes}
+use Rattle.change.specs.Turns.{turn_bytes}
 use Rattle.change.proofs.Reading.{sibling_read}
 use Rattle.change.proofs.Turning.{turns_none, turns_more, half_more}
 use Rattle.change.proofs.Extending.{extends_more, extends_failed, kept_then}

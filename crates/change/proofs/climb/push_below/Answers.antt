@@ -1,4 +1,4 @@
-use Rattle.std.proofs.Common.{◌≡◌, ℕ, ◌+◌, ◌-◌, ◌%◌, cond, List, ◌++◌, is_ok, vec_items, ap, ◌∙◌, arith}
+use Rattle.std.proofs.Common.{ℕ, ◌+◌, ◌-◌, ◌%◌, cond, List, ◌++◌, is_ok, vec_items, ap, ◌∙◌, arith}
 use Rattle.change.proofs.Reading.{below_bytes}
 use Rattle.change.proofs.climb.push_below.Goals as goal
 

@@ -1,4 +1,4 @@
-use Rattle.std.proofs.Common.{◌≡◌, ℕ, ◌+◌, ◌%◌, cond, List, ◌++◌, is_ok, vec_items, refl, ap, ◌∙◌, arith}
+use Rattle.std.proofs.Common.{ℕ, ◌+◌, ◌%◌, cond, List, ◌++◌, is_ok, vec_items, refl, ap, ◌∙◌, arith}
 use Rattle.tree.specs.Nodes.{sibling_of}
 use Rattle.change.specs.Coded.{key_bytes}
 use Rattle.change.specs.Nodes.{key_in}

@@ -1,4 +1,4 @@
-use Rattle.std.proofs.Common.{◌≡◌, sym, ◌∙◌, arith}
+use Rattle.std.proofs.Common.{sym, ◌∙◌, arith}
 use Rattle.change.proofs.Reading.{bytes_read}
 use Rattle.change.proofs.keys.bytes_of.Goals as goal
 

@@ -1,4 +1,4 @@
-use Rattle.std.proofs.Common.{◌≡◌, ap, ◌∙◌, arith}
+use Rattle.std.proofs.Common.{◌∙◌, arith}
 use Rattle.change.proofs.Parts.{text-placed}
 use Rattle.change.proofs.write.place_key.Goals as goal
 

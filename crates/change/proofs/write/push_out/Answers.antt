@@ -1,4 +1,3 @@
-use Rattle.std.proofs.Common.{◌≡◌, ap, ◌∙◌}
 use Rattle.records.specs.Format.{encode}
 use Rattle.change.proofs.write.push_out.Goals as goal
 

@@ -1,4 +1,4 @@
-use Rattle.std.proofs.Common.{◌≡◌, vec_items, sym, refl, arith}
+use Rattle.std.proofs.Common.{vec_items, sym, refl, arith}
 use Rattle.std.proofs.lemmas.List.{set_past}
 use Rattle.index.proofs.Index.set_content.Goals as goal
 

@@ -1,5 +1,4 @@
-use Rattle.std.proofs.Common.{◌≡◌, ℕ, ◌+◌, ◌-◌, ◌*◌, ◌<◌, get_or, Some, None, sym, ap, ◌∙◌, subst, arith}
-use Rattle.lines.specs.Numbers.{onward, narrow, number}
+use Rattle.std.proofs.Common.{◌≡◌, ℕ, ◌+◌, ◌-◌, ◌*◌, get_or, ◌∙◌, arith}
 use Rattle.lines.proofs.Digits.{stops, goes, overflows, ends}
 use Rattle.lines.proofs.numbers.counter.Goals as goal
 

@@ -1,4 +1,4 @@
-use Rattle.std.proofs.Common.{◌≡◌, ℕ, List, map, get_or, None, vec_items, sym, ap, ◌∙◌, div-one, arith}
+use Rattle.std.proofs.Common.{ℕ, map, get_or, None, vec_items, sym, ap, ◌∙◌, div-one, arith}
 use Rattle.tree.specs.Nodes.{sibling_of}
 use Rattle.change.specs.Nodes.{key_in}
 use Rattle.rehearsal.specs.Siblings.{keyed}

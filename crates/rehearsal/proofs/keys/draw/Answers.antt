@@ -1,4 +1,4 @@
-use Rattle.std.proofs.Common.{◌+◌, List, map, vec_items, ap, ◌∙◌, arith}
+use Rattle.std.proofs.Common.{map, vec_items, ap, ◌∙◌, arith}
 use Rattle.sealing.specs.declared.key.Key.{Key}
 use Rattle.rehearsal.proofs.Drawing.{none_drawn, one_more}
 use Rattle.rehearsal.proofs.keys.draw.Goals as goal

@@ -1,5 +1,4 @@
-use Rattle.std.proofs.Common.{◌≡◌, eqb, sym, ◌∙◌, arith, eqb→eq, eqb-true}
-use lib.Dec.{eqb_refl}
+use Rattle.std.proofs.Common.{sym, ◌∙◌, arith, eqb-true}
 use Rattle.std.proofs.lemmas.List.{ext_get_or}
 use borrow.Author.Tests.{eqb-false}
 use Rattle.sealing.proofs.aead.agree.Goals as goal

@@ -1,4 +1,4 @@
-use Rattle.std.proofs.Common.{◌≡◌, ap, ◌∙◌, rules}
+use Rattle.std.proofs.Common.{ap, ◌∙◌, rules}
 use Rattle.chacha20.proofs.stream.Stream.make_block.Goals as goal
 use Rattle.chacha20.specs.ChaCha20.{output, serialize}
 

@@ -1,5 +1,4 @@
-use Rattle.std.proofs.Common.{◌≡◌, ℕ, ◌-◌, true, false, List, length, take, drop, sym, refl, ap, ◌∙◌, arith, rules}
-use borrow.Author.Tests.{clash}
+use Rattle.std.proofs.Common.{◌≡◌, true, false, length, take, sym, refl, ap, ◌∙◌, arith, rules}
 use Rattle.cipher.specs.Parts.{number-opens, number_shuts}
 use Rattle.cipher.proofs.transparent.TransparentSealing.open.Goals as goal
 

@@ -1,4 +1,4 @@
-use Rattle.std.proofs.Common.{◌≡◌, ℕ, ◌≤◌, List, length, vec_items, ◌∙◌, subst, arith}
+use Rattle.std.proofs.Common.{ℕ, ◌≤◌, List, length, vec_items, ◌∙◌, subst, arith}
 use Rattle.sealing.specs.Aead.{ciphertext, tag, longest}
 use Rattle.lines.proofs.Buffers.{written_marked}
 use Rattle.lines.proofs.tasks.Work.seal.Goals as goal

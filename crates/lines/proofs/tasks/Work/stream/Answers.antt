@@ -1,4 +1,4 @@
-use Rattle.std.proofs.Common.{◌≡◌, ℕ, ◌+◌, ◌^◌, ◌≤◌, List, length, vec_items, ap, ◌∙◌, subst, arith}
+use Rattle.std.proofs.Common.{ℕ, ◌+◌, ◌^◌, ◌≤◌, List, length, vec_items, ap, ◌∙◌, subst, arith}
 use Rattle.chacha20.specs.ChaCha20.{blocks, encrypt}
 use Rattle.lines.proofs.Buffers.{written}
 use Rattle.lines.proofs.tasks.Work.stream.Goals as goal

@@ -1,5 +1,4 @@
-use Rattle.std.proofs.Common.{◌≡◌, ◌+◌, ◌-◌, sym, ap, ◌∙◌, arith}
-use Rattle.rehearsal.specs.Numbers.{climbed}
+use Rattle.std.proofs.Common.{◌≡◌, ◌+◌, ◌-◌, arith}
 use Rattle.rehearsal.proofs.Climbing.{climbed_more, climbed-done}
 use Rattle.rehearsal.proofs.numbers.Numbers.climb.Goals as goal
 

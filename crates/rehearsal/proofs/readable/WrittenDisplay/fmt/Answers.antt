@@ -1,5 +1,4 @@
 use Rattle.std.proofs.Common.{sym, subst}
-use Rattle.records.specs.Decode.{Decoded}
 use Rattle.rehearsal.proofs.Shorter.{Shorter, shorter}
 use Rattle.rehearsal.proofs.readable.WrittenDisplay.fmt.Goals as goal
 

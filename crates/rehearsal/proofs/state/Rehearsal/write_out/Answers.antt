@@ -1,4 +1,4 @@
-use Rattle.std.proofs.Common.{◌≡◌, ℕ, map, None, vec_items, ap, ◌∙◌}
+use Rattle.std.proofs.Common.{ℕ, map, None, vec_items, ap, ◌∙◌}
 use Rattle.sealing.specs.declared.key.Key.{Key}
 use Rattle.change.specs.Nodes.{key_in}
 use Rattle.rehearsal.specs.Siblings.{siblings_of}

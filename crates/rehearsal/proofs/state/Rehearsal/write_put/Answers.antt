@@ -1,4 +1,4 @@
-use Rattle.std.proofs.Common.{◌≡◌, ℕ, map, Some, vec_items, ap, ◌∙◌}
+use Rattle.std.proofs.Common.{ℕ, map, Some, vec_items, ap, ◌∙◌}
 use Rattle.sealing.specs.declared.key.Key.{Key}
 use Rattle.std.proofs.lemmas.Result.{IfOk-from_err}
 use Rattle.change.specs.Nodes.{key_in}

@@ -1,4 +1,4 @@
-use Rattle.std.proofs.Common.{◌≡◌, sym, refl, ap, ◌∙◌}
+use Rattle.std.proofs.Common.{ap, ◌∙◌}
 use Rattle.sealing.proofs.Laws.{tag_parts}
 use Rattle.poly1305.specs.State.{multiplier}
 use Rattle.sealing.specs.Work.{absorbed_text}
