@@ -44,10 +44,7 @@ fn open_medium(rt: &HostRuntime, path: &str) -> anyhow::Result<FileMedium> {
 fn open_chip(rt: &HostRuntime, path: &str) -> anyhow::Result<FileChip> {
     match FileChip::open(rt, path) {
         Ok(chip) => Ok(chip),
-        Err(why) => {
-            let text = format!(in rt.alloc(); "{why}")?;
-            Err(text.into())
-        }
+        Err(why) => Err(anyhow!("{why}")),
     }
 }
 
