@@ -5,7 +5,6 @@
 .PHONY: demo test memory bench
 
 demo:
-	@rt check rehearse > /dev/null
 	@bash demo/seal.sh
 	@bash demo/changes.sh
 
@@ -14,8 +13,7 @@ test:
 
 memory:
 	@command -v gcore > /dev/null || { apt-get update -qq && apt-get install -qq -y gdb; }
-	@rt check store > /dev/null
-	@python3 tests/memory.py target/bin/store
+	@python3 tests/memory.py "$$(bash tests/program.sh store)"
 
 bench:
 	@bash bench/run.sh

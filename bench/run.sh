@@ -1,6 +1,6 @@
 #!/usr/bin/env bash
 # Measures the proved library beside OpenSSL and libsodium, and prints a table.
-# CAPI names an archive to measure instead of the one that `rt staticlib capi` makes.
+# CAPI names an archive to measure instead of the one that `rt lib` makes of crates/capi.
 set -euo pipefail
 cd "$(dirname "${BASH_SOURCE[0]}")/.."
 
@@ -12,14 +12,13 @@ fi
 if [ -n "${CAPI:-}" ]; then
     library=$CAPI
 else
-    library=target/staticlib/libcapi.a
-    rt staticlib capi
+    library=crates/capi/out/libcapi.a
+    (cd crates/capi && rt lib >/dev/null)
 fi
 
 # An exported function that allocates calls rattle_alloc and rattle_dealloc, which are the toolchain's
 # C code over malloc and free. The linker takes from this archive only what is asked for.
-rt_home=$(dirname "$(dirname "$(realpath "$(command -v rt)")")")
-heap=$rt_home/lib/librattle_c.a
+heap=$(dirname "$(rt doc)")/c/liblibc_c.a
 
 mkdir -p target/bench
 cc -O2 -std=c11 -Wall -Wextra -o target/bench/bench bench/bench.c "$library" "$heap" -lcrypto -lsodium

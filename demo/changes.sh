@@ -2,7 +2,7 @@
 # What three changes of a small store write, with keys as numbers: each change draws new keys from the place up to the root.
 set -euo pipefail
 cd "$(dirname "${BASH_SOURCE[0]}")/.."
-rehearse=target/bin/rehearse
+rehearse=$(bash tests/program.sh rehearse)
 
 hex() { od -An -v -tx1 | tr -d ' \n'; }
 

@@ -2,7 +2,7 @@
 # The standard's own example, RFC 8439 section 2.8.2, sealed and opened by the proved program.
 set -euo pipefail
 cd "$(dirname "${BASH_SOURCE[0]}")/.."
-rehearse=target/bin/rehearse
+rehearse=$(bash tests/program.sh rehearse)
 
 text="Ladies and Gentlemen of the class of '99: If I could offer you only one tip for the future, sunscreen would be it."
 key=808182838485868788898a8b8c8d8e8f909192939495969798999a9b9c9d9e9f

@@ -12,6 +12,11 @@ if ! rt ci 2>&1 | tee "$log" | sed '$d'; then
     exit 1
 fi
 last=$(tail -n 1 "$log")
+# An edit that can't be applied, compiled or read is no refusal.
+if grep -qE '^rt: ok.*, [1-9][0-9]* bad' "$log"; then
+    echo "all: a must-fail edit is bad" >&2
+    exit 1
+fi
 
 bash tests/compare.sh
 

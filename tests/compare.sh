@@ -1,10 +1,10 @@
 #!/usr/bin/env bash
 # Compares the proved program with the reference program, with the values of RFC 8439, and with tables of right answers.
-# REHEARSE names the program under test; by default it is the one that `rt ci` leaves.
+# REHEARSE names the program under test; by default it is built here.
 set -euo pipefail
 cd "$(dirname "${BASH_SOURCE[0]}")/.."
 
-rehearse=$(realpath -m "${REHEARSE:-target/bin/rehearse}")
+rehearse=$(realpath -m "${REHEARSE:-$(bash tests/program.sh rehearse)}")
 reference=reference/target/release/reference
 seed=8439
 count=12000

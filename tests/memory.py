@@ -1,5 +1,5 @@
 # After each of some calls, with `store` waiting for its next line, a core of the process is searched for every key that was ever handed in, in bytes, in halves and in hex: only the chip's may be there.
-# Needs gdb's gcore. Run by `make memory`, after `rt check store`.
+# Needs gdb's gcore. Run by `make memory`.
 import os, secrets, shutil, subprocess, sys, tempfile
 
 program = os.path.abspath(sys.argv[1])
