@@ -1,7 +1,7 @@
 -- One step down: what was read and opened is what the medium shows.
-use Rattle.std.proofs.Common.{◌≡◌, ℕ, zero, suc, ◌+◌, ◌-◌, ◌*◌, ◌/◌, ◌%◌, ◌^◌, ◌<◌, ◌≤◌, List, [], ◌∷◌, ◌++◌, length, take, drop, Some, None, Err, Option, sym, refl, ap, ◌∙◌, subst, arith}
+use Rattle.std.proofs.Common.{◌≡◌, ℕ, suc, ◌+◌, ◌-◌, ◌/◌, ◌%◌, ◌^◌, ◌<◌, List, ◌∷◌, length, take, drop, Some, None, Err, Option, sym, refl, ap, ◌∙◌, subst, arith}
 use Rattle.cipher.specs.Sealed.{slot_nonce}
-use Rattle.records.specs.Format.{head, key_tag}
+use Rattle.records.specs.Format.{head}
 use Rattle.forgetting.specs.Change.{Numbered}
 use Rattle.change.specs.Coded.{Cipher}
 use Rattle.change.proofs.Bridge.{path_number, sibling_number}
@@ -11,7 +11,7 @@ use Rattle.index.specs.declared.row.KeyRow.{KeyRow}
 use Rattle.index.specs.declared.row.KeyRow.TheVariants as KeyRows
 use Rattle.index.specs.Rows.{key_row}
 use Rattle.index.specs.Noted.{Rows}
-use Rattle.shown.specs.Shown.{Shows, KeyShown, KeySealed, Marks16}
+use Rattle.shown.specs.Shown.{KeyShown, Marks16}
 use Rattle.shown.proofs.NodeNumbers.{shifted, beside, beside_half, beside_below, index_below}
 use Rattle.shown.proofs.Reading.{reads_shown}
 use Rattle.devices.specs.Events.{Event, got, held, changes, StandsAt, Faithful}

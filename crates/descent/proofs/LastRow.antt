@@ -1,5 +1,5 @@
 -- The last of the siblings along a path, that of the place itself.
-use Rattle.std.proofs.Common.{◌≡◌, ℕ, suc, ◌+◌, ◌-◌, ◌/◌, ◌^◌, ◌<◌, ◌≤◌, List, length, set, Ok, Err, Result, sym, refl, ap, ◌∙◌, subst, arith}
+use Rattle.std.proofs.Common.{◌≡◌, ℕ, suc, ◌+◌, ◌-◌, ◌/◌, ◌^◌, ◌<◌, ◌≤◌, List, length, set, Ok, Err, Result, sym, ap, ◌∙◌, arith}
 use Rattle.tree.specs.Nodes.{sibling_of}
 use Rattle.forgetting.specs.Climb.{sibling_key}
 use Rattle.change.specs.Coded.{Cipher}

@@ -1,5 +1,5 @@
 -- What a row of the index leads to, whichever row it is.
-use Rattle.std.proofs.Common.{◌≡◌, ℕ, zero, suc, ◌+◌, ◌-◌, ◌/◌, ◌%◌, ◌^◌, ◌<◌, ◌≤◌, List, [], ◌∷◌, map, length, Some, None, Ok, Err, Option, Result, sym, refl, ap, ◌∙◌, subst, arith}
+use Rattle.std.proofs.Common.{◌≡◌, ℕ, suc, ◌+◌, ◌-◌, ◌/◌, ◌^◌, List, [], ◌∷◌, length, Some, None, Ok, Err, Option, Result, sym, refl, ap, ◌∙◌, subst, arith}
 use Rattle.forgetting.specs.Tree.{Tree, key_of, place_in}
 use Rattle.forgetting.specs.Change.{Numbered}
 use Rattle.change.specs.Coded.{Cipher}
@@ -7,15 +7,15 @@ use Rattle.index.specs.declared.row.KeyRow.{KeyRow}
 use Rattle.index.specs.declared.row.KeyRow.TheVariants.{NoKey, Sealed}
 use Rattle.index.specs.Rows.{key_row}
 use Rattle.index.specs.Noted.{Rows}
-use Rattle.shown.specs.Shown.{Shows, KeyShown, KeySealed, Marks16}
+use Rattle.shown.specs.Shown.{KeyShown, Marks16}
 use Rattle.shown.proofs.Reading.{row_no_key}
 use Rattle.devices.specs.Events.{Event, got, held, changes, Faithful}
 use Rattle.devices.proofs.Laws.{faithful_got, changes-got}
-use Rattle.descent.specs.Opened.{Opens, OpensRow, Follows, KeyOpened, key_seals}
+use Rattle.descent.specs.Opened.{Opens, OpensRow, Follows, key_seals}
 use Rattle.descent.specs.Path.{Showing, OfShown, KeyAt, Fails, Running, StillRuns}
 use Rattle.descent.specs.declared.failure.Failure.{Failure}
 use Rattle.descent.specs.declared.failure.Failure.TheVariants.{Refused, Memory, Device, Stopped}
-use Rattle.descent.proofs.Down.{TextsApart, Hangs, stepped, turn_down, turn-ends}
+use Rattle.descent.proofs.Down.{TextsApart, Hangs, turn_down, turn-ends}
 
 -- What was read before one more reading was the medium's.
 before_it : (offset : ℕ) (bytes : List ℕ) (middle after : List Event) → after ≡ got offset bytes ∷ middle → (first : List ℕ) → Faithful first after → Faithful first middle

@@ -1,7 +1,6 @@
 -- What opening something that the medium has comes to.
-use Rattle.std.specs.Prelude.{◌≡◌, ℕ, ◌+◌, ◌%◌, List, [], ◌∷◌, length, Some, None, Ok, Err, Option, Result, ◌≢◌}
-use Rattle.tree.specs.declared.answer.Refusal.{Refusal}
-use Rattle.tree.specs.declared.answer.Refusal.TheVariants.{NoSuchPlace, Nothing, DoesNotOpen, Old, Damaged, FewKeys, NumbersSpent}
+use Rattle.std.specs.Prelude.{◌≡◌, ℕ, ◌%◌, List, [], ◌∷◌, length, Some, None, Ok, Err, Option, Result, ◌≢◌}
+use Rattle.tree.specs.declared.answer.Refusal.TheVariants.{DoesNotOpen}
 use Rattle.cipher.specs.Sealed.{slot_nonce}
 use Rattle.records.specs.Format.{head, key_tag}
 use Rattle.forgetting.specs.Change.{Numbered}

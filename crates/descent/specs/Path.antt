@@ -1,16 +1,14 @@
 -- Going down a path of the tree that the medium shows.
-use Rattle.std.specs.Prelude.{◌≡◌, ℕ, ◌+◌, ◌-◌, ◌/◌, ◌^◌, ◌<◌, ◌≤◌, List, length, Some, None, Ok, Err, Option, Result}
-use Rattle.tree.specs.declared.answer.Refusal.{Refusal}
+use Rattle.std.specs.Prelude.{◌≡◌, ℕ, List, Some, None, Ok, Err, Option, Result}
 use Rattle.tree.specs.declared.answer.Refusal.TheVariants.{NoSuchPlace, Nothing, DoesNotOpen, Old, Damaged, FewKeys, NumbersSpent}
 use Rattle.forgetting.specs.Tree.{Tree, key_of, place_in, content_of}
-use Rattle.forgetting.specs.Climb.{sibling_key}
 use Rattle.forgetting.specs.Change.{Numbered}
 use Rattle.change.specs.Coded.{Cipher}
 use Rattle.change.specs.Outcome.{Siblings}
 use Rattle.change.specs.declared.node.Node.{Node}
 use Rattle.index.specs.Noted.{Rows}
 use Rattle.shown.specs.Shown.{Shows, Counts}
-use Rattle.devices.specs.Events.{Event, held, changes, Faithful}
+use Rattle.devices.specs.Events.{Event, held, Faithful}
 use Rattle.descent.specs.declared.failure.Failure.{Failure}
 use Rattle.descent.specs.declared.failure.Failure.TheVariants.{Refused, Memory, Device, Stopped}
 

@@ -1,5 +1,5 @@
 -- Laws of what words come to.
-use Rattle.std.proofs.Common.{◌≡◌, ℕ, cond, eqb, List, length, Ok, Err, Result, sym, ap, ◌∙◌}
+use Rattle.std.proofs.Common.{◌≡◌, ℕ, eqb, List, length, Ok, Err, Result, sym, ap, ◌∙◌}
 use Rattle.std.proofs.lemmas.Bool.{cond-true, cond-false, eq-eqb, ne_eqb}
 use Rattle.fields.specs.declared.field.Field.{Field}
 use Rattle.fields.specs.declared.faults.Failure.{Failure}

@@ -8,7 +8,7 @@ use Rattle.records.specs.Format as Format
 use Rattle.records.specs.Format.{head, key_tag, content_tag}
 use Rattle.forgetting.specs.Secret as Secret
 use Rattle.forgetting.specs.Secret.{Node, Sealed, Key, Content, under, HasKey, Opens}
-use Rattle.forgetting.specs.Change.{Record, sealing, Numbered}
+use Rattle.forgetting.specs.Change.{sealing, Numbered}
 use Rattle.forgetting.specs.Lawful.{Apart}
 use Rattle.forgetting.proofs.Members.{Within, in_none, in_cons}
 use Rattle.change.specs.Coded.{Cipher, node_number, coded}

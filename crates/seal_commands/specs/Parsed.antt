@@ -1,5 +1,5 @@
 -- What the words of a line come to as a command.
-use Rattle.std.specs.Prelude.{◌≡◌, ℕ, Bool, true, false, cond, ◌&&◌, List, [], ◌∷◌, length, Ok, Err, vec_items, codes, Result, ◌==◌, slice_index_or}
+use Rattle.std.specs.Prelude.{ℕ, Bool, true, false, cond, ◌&&◌, List, [], ◌∷◌, length, Ok, Err, vec_items, codes, Result, ◌==◌, slice_index_or}
 use Rattle.fields.specs.Fields.{bytes_of, fixed_of, number_of}
 use Rattle.fields.specs.declared.faults.Malformed.{Malformed}
 use Rattle.fields.specs.declared.faults.Malformed.TheVariants.{FieldCount, UnknownCommand}

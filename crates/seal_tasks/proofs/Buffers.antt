@@ -1,5 +1,5 @@
 -- What a vector holds once its buffer was written.
-use Rattle.std.proofs.Common.{◌≡◌, ℕ, List, ◌++◌, length, take, sym, ap, ◌∙◌, take_at}
+use Rattle.std.proofs.Common.{◌≡◌, ℕ, List, ◌++◌, length, take, ap, ◌∙◌, take_at}
 
 pub written : (f : List ℕ → List ℕ) (n : ℕ) (was old new rest : List ℕ) → length new ≡ n → was ≡ old → new ≡ f was → take n (new ++ rest) ≡ f old
 written f n was old new rest long same is = take_at new rest n long ∙ is ∙ ap f same

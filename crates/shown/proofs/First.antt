@@ -8,7 +8,6 @@ use Rattle.change.specs.Coded.{Cipher, node_number, coded, bytes_of}
 use Rattle.change.specs.Outcome.{is_content}
 use Rattle.index.specs.declared.row.KeyRow.TheVariants as KeyRows
 use Rattle.index.specs.declared.row.ContentRow.{ContentRow}
-use Rattle.index.specs.declared.row.ContentRow.TheVariants as ContentRows
 use Rattle.index.specs.Rows.{key_row, content_row}
 use Rattle.index.specs.Noted.{Rows, AllProper}
 use Rattle.shown.specs.Shown.{ContentShown, Marks16}

@@ -1,15 +1,14 @@
 -- A change that is prepared and made to last is the change of every tree that the store stands for.
-use Rattle.std.proofs.Common.{◌≡◌, ℕ, zero, suc, pred, ◌+◌, ◌-◌, ◌^◌, ◌<◌, ◌≤◌, Bool, true, false, cond, ltb, leb, ◌⊎◌, List, [], ◌∷◌, ◌++◌, map, length, Some, None, Ok, Err, Option, Result, sym, refl, ap, ◌∙◌, subst, inl, inr, sub-one, arith, length-append}
+use Rattle.std.proofs.Common.{◌≡◌, ℕ, zero, suc, pred, ◌+◌, ◌-◌, ◌^◌, ◌<◌, ◌≤◌, Bool, true, false, cond, ltb, leb, ◌⊎◌, List, [], ◌∷◌, ◌++◌, length, Some, None, Ok, Err, Option, Result, sym, refl, ap, ◌∙◌, subst, inl, inr, sub-one, arith, length-append}
 use Rattle.std.proofs.lemmas.Bool.{leb-true}
 use Rattle.sealing.specs.declared.key.Key.{Key}
 use Rattle.records.specs.Format.{highest}
 use Rattle.record_laws.proofs.Decoding.{decodes_encoded}
-use Rattle.tree.specs.declared.answer.Refusal.{Refusal}
 use Rattle.tree.specs.declared.answer.Refusal.TheVariants.{NoSuchPlace, FewKeys, NumbersSpent}
 use Rattle.forgetting.specs.Tree.{Tree, bare, leaf, node, key_of, to_even}
 use Rattle.forgetting.specs.Change.{Edit, edited, records, single, towards, draws, counted, Numbered}
 use Rattle.forgetting.specs.History.{root}
-use Rattle.change.specs.Coded.{Cipher, bytes_of}
+use Rattle.change.specs.Coded.{Cipher}
 use Rattle.change.specs.Nodes.{bytes_in}
 use Rattle.change.specs.Outcome.{is_content, refusal}
 use Rattle.index.specs.Noted.{Rows, scanned}
@@ -17,14 +16,13 @@ use Rattle.shown.specs.Shown.{Shows, Counts, Marks16, Keeps}
 use Rattle.shown.proofs.Keeping.{change_keeps}
 use Rattle.shown.proofs.Scanning.{scanned-shows}
 use Rattle.devices.specs.Events.{Event, appended, synced, held, changes, Faithful}
-use Rattle.devices.specs.Given.{Given}
 use Rattle.devices.proofs.Laws.{same-held, held-written, changes-written, changes-synced, faithful_written, faithful_synced}
 use Rattle.descent.specs.Path.{Showing, OfShown, Running}
 use Rattle.descent.specs.declared.failure.Failure.{Failure}
 use Rattle.descent.specs.declared.failure.Failure.TheVariants.{Refused, Memory, Device, Stopped}
-use Rattle.storage.specs.Seats.{State, AllZeros, Lasts, Breaks, Ends, Halts, Finishes}
+use Rattle.storage.specs.Seats.{State, Breaks, Ends, Halts, Finishes}
 use Rattle.storage.specs.Standing.{chip_of, Standing}
-use Rattle.storage.specs.Prepares.{change_with, record_bytes, Decides, Prepares}
+use Rattle.storage.specs.Prepares.{change_with, record_bytes, Prepares}
 use Rattle.storage.specs.Changes.{new_root, Unchanged, Made, Broken, OfTrees, Changes}
 
 -- The chip holds the root's key.

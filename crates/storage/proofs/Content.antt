@@ -1,8 +1,8 @@
 -- The content of a place: what was read and opened is what the medium shows.
-use Rattle.std.proofs.Common.{◌≡◌, ℕ, zero, suc, ◌+◌, ◌-◌, ◌/◌, ◌%◌, ◌^◌, ◌<◌, ◌≤◌, Bool, true, false, ◌⊎◌, List, [], ◌∷◌, ◌++◌, length, take, drop, Some, None, Err, Option, Result, sym, refl, ap, ◌∙◌, subst, inl, inr, arith, length-take-le}
+use Rattle.std.proofs.Common.{◌≡◌, ℕ, zero, suc, ◌+◌, ◌-◌, ◌^◌, ◌<◌, ◌≤◌, Bool, true, false, List, ◌∷◌, ◌++◌, length, take, drop, Some, Err, Result, sym, refl, ap, ◌∙◌, subst, inl, inr, arith, length-take-le}
 use lib.Seq.{take-append-le, take-append_seam, drop-append_seam}
 use Rattle.cipher.specs.Sealed.{slot_nonce, text_of}
-use Rattle.records.specs.Format.{head, content_tag}
+use Rattle.records.specs.Format.{head}
 use Rattle.forgetting.specs.Tree.{Tree, bare, leaf, node, key_of, even_of, odd_of, Holds, to_even, turn, place_in, content_of}
 use Rattle.forgetting.specs.Change.{Numbered}
 use Rattle.change.specs.Coded.{Cipher}
@@ -10,11 +10,10 @@ use Rattle.index.specs.declared.row.ContentRow.{ContentRow}
 use Rattle.index.specs.declared.row.ContentRow.TheVariants as ContentRows
 use Rattle.index.specs.Rows.{content_row}
 use Rattle.index.specs.Noted.{Rows}
-use Rattle.shown.specs.Shown.{Shows, Counts, ContentShown, ContentSealed, Marks16}
-use Rattle.shown.proofs.Reading.{reads_shown}
-use Rattle.devices.specs.Events.{Event, got, held, changes, StandsAt, Faithful}
+use Rattle.shown.specs.Shown.{Shows, ContentShown, ContentSealed, Marks16}
+use Rattle.devices.specs.Events.{Event, got, held, changes, Faithful}
 use Rattle.devices.proofs.Laws.{same-held, faithful_got, changes-got}
-use Rattle.descent.specs.Opened.{Shut, Opens}
+use Rattle.descent.specs.Opened.{Opens}
 use Rattle.descent.specs.Path.{Showing, OfShown, KeyAt, Fails}
 use Rattle.descent.specs.declared.failure.Failure.{Failure}
 use Rattle.descent.specs.declared.failure.Failure.TheVariants.{Refused, Memory, Device, Stopped}

@@ -1,5 +1,5 @@
 -- WHAT CALLS ANSWER, by number and value.
-use Rattle.std.specs.Prelude.{ℕ, ◌^◌, Bool, cond, List, length, take, Some, None, Ok, Err, Option, Result, nat_le, nat_lt}
+use Rattle.std.specs.Prelude.{ℕ, ◌^◌, cond, List, length, take, Some, None, Ok, Err, Option, Result, nat_le, nat_lt}
 use Rattle.tree.specs.Answers.{number_of}
 use Rattle.tree.specs.declared.answer.Refusal.{Refusal}
 use Rattle.tree.specs.declared.answer.Refusal.TheVariants.{NoSuchPlace, Nothing}

@@ -1,13 +1,12 @@
 -- WHAT A PUT OR A TAKING OUT COMES TO.
-use Rattle.std.specs.Prelude.{◌≡◌, ℕ, ◌+◌, ◌-◌, ◌<◌, ◌⊎◌, List, ◌∷◌, length, Some, None, Ok, Err, Option, Result}
+use Rattle.std.specs.Prelude.{◌≡◌, ℕ, ◌⊎◌, List, ◌∷◌, length, Some, None, Ok, Err, Option, Result}
 use Rattle.sealing.specs.declared.key.Key.{Key}
 use Rattle.forgetting.specs.Tree.{Tree}
-use Rattle.forgetting.specs.Change.{edited, draws, counted, Numbered}
+use Rattle.forgetting.specs.Change.{edited, counted, Numbered}
 use Rattle.change.specs.Coded.{Cipher}
 use Rattle.change.specs.Nodes.{bytes_in}
 use Rattle.change.specs.Outcome.{refusal}
-use Rattle.devices.specs.Events.{Event, appended, synced, changes, Faithful}
-use Rattle.devices.specs.Given.{Given}
+use Rattle.devices.specs.Events.{appended, synced, changes, Faithful}
 use Rattle.descent.specs.declared.failure.Failure.{Failure}
 use Rattle.descent.specs.declared.failure.Failure.TheVariants.{Refused, Memory, Device, Stopped}
 use Rattle.storage.specs.Seats.{State, AllZeros}

@@ -1,5 +1,5 @@
 -- Which keys are in memory.
-use Rattle.std.specs.Prelude.{◌≡◌, ℕ, ◌<◌, Bool, true, false, List, length, get_or, is_some, None}
+use Rattle.std.specs.Prelude.{◌≡◌, ℕ, false, List, is_some}
 use Rattle.change.specs.Nodes.{sibling_in}
 use Rattle.change.specs.declared.node.Node.{Node}
 

@@ -2,7 +2,7 @@
 use Rattle.std.specs.Prelude.{◌≡◌, ℕ, ◌+◌, ◌≤◌, List, length, Some, None, Ok, Err, Option, Result}
 use Rattle.sealing.specs.declared.key.Key.{Key}
 use Rattle.forgetting.specs.Tree.{Tree}
-use Rattle.forgetting.specs.Change.{Edit, Record, records, single, draws, counted, Numbered}
+use Rattle.forgetting.specs.Change.{Edit, records, single, draws, counted, Numbered}
 use Rattle.forgetting.specs.History.{root}
 use Rattle.change.specs.Coded.{Cipher, bytes_of}
 use Rattle.change.specs.Nodes.{bytes_in}

@@ -1,5 +1,5 @@
 -- What reading a place comes to.
-use Rattle.std.specs.Prelude.{◌≡◌, ℕ, ◌^◌, ◌<◌, ◌≤◌, ◌⊎◌, List, length, take, drop, Some, None, Ok, Err, Option, Result}
+use Rattle.std.specs.Prelude.{◌≡◌, ℕ, ◌<◌, ◌≤◌, ◌⊎◌, List, length, take, drop, Some, Ok, Err, Result}
 use Rattle.forgetting.specs.Tree.{Tree, place_in, content_of}
 use Rattle.forgetting.specs.Change.{Numbered}
 use Rattle.descent.specs.Path.{Ends}

@@ -4,7 +4,7 @@ use Rattle.sealing.specs.declared.key.Key.{Key}
 use Rattle.forgetting.specs.Change.{Numbered}
 use Rattle.change.specs.Nodes.{bytes_in}
 use Rattle.index.specs.Noted.{Rows, scanned}
-use Rattle.devices.specs.Events.{Event, appended, synced, changes}
+use Rattle.devices.specs.Events.{Event, appended, synced}
 use Rattle.devices.specs.Given.{Given, given_now}
 use Rattle.descent.specs.declared.failure.Failure.{Failure}
 use Rattle.descent.specs.declared.failure.Failure.TheVariants.{Refused, Memory, Device, Stopped}

@@ -1,4 +1,4 @@
-use Rattle.std.proofs.Common.{◌≡◌, ℕ, ◌+◌, List, [], ◌∷◌, ◌++◌, map, drop, vec_items, ap, ◌∙◌, arith, Bor}
+use Rattle.std.proofs.Common.{◌≡◌, ℕ, ◌+◌, List, [], ◌∷◌, ◌++◌, map, vec_items, ap, ◌∙◌, arith, Bor}
 use Rattle.std.specs.List.{between}
 use Rattle.std.proofs.lemmas.List.{map_push}
 use Rattle.words.specs.Words.{onward}

@@ -1,15 +1,12 @@
 -- A turn opens the sibling's key and goes one node down; the last sibling is the place's.
-use Rattle.std.proofs.Common.{◌≡◌, ℕ, suc, ◌+◌, ◌-◌, ◌/◌, ◌^◌, ◌<◌, ◌≤◌, List, length, set, Ok, Err, Result, sym, refl, ap, ◌∙◌, subst, arith}
+use Rattle.std.proofs.Common.{◌≡◌, suc, ◌+◌, ◌-◌, ◌/◌, ◌^◌, ◌<◌, ◌≤◌, length, Err, sym, ap, ◌∙◌, arith}
 use Rattle.std.proofs.lemmas.Result.{err_from_is_err_and}
 use Rattle.forgetting.specs.Tree.{key_of, place_in}
 use Rattle.tree.specs.Nodes.{sibling_of}
 use Rattle.change.specs.Nodes.{key_in}
 use Rattle.index.specs.Noted.{rows_of}
-use Rattle.devices.specs.Events.{changes}
 use Rattle.shown.proofs.NodeNumbers.{beside}
-use Rattle.descent.specs.Opened.{OpensRow}
-use Rattle.descent.specs.Path.{OfShown, Collects}
-use Rattle.descent.proofs.Down.{Hangs, path_hangs, sibling_hangs}
+use Rattle.descent.proofs.Down.{path_hangs, sibling_hangs}
 use Rattle.descent.proofs.Rows.{opened_row, followed_row, ended_row, unfollowed_row, row_runs, follow_runs}
 use Rattle.descent.proofs.Beside.{one_more}
 use Rattle.descent.proofs.LastRow.{collected}

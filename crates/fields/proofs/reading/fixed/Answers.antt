@@ -1,4 +1,4 @@
-use Rattle.std.proofs.Common.{ℕ, List, length, vec_items, sym, refl, ap, ◌∙◌}
+use Rattle.std.proofs.Common.{length, vec_items, sym, refl, ap, ◌∙◌}
 use Rattle.std.proofs.lemmas.Result.{err_from_is_err_and}
 use Rattle.fields.specs.Fields.{fixed_of, bytes_of, sized}
 use Rattle.fields.proofs.Readings.{fails_too, long_enough, another_length}

@@ -1,4 +1,4 @@
-use Rattle.std.proofs.Common.{◌≡◌, ℕ, ◌≤◌, List, length, vec_items, ◌∙◌, subst, arith, rules}
+use Rattle.std.proofs.Common.{ℕ, ◌≤◌, List, length, vec_items, ◌∙◌, subst, arith, rules}
 use Rattle.sealing.specs.Aead.{ciphertext, tag, longest}
 use Rattle.seal_tasks.proofs.Buffers.{written_marked}
 use Rattle.seal_tasks.proofs.Work.seal.Goals as goal

@@ -1,4 +1,4 @@
-use Rattle.std.proofs.Common.{◌≡◌, ℕ, ◌+◌, ◌^◌, ◌≤◌, List, length, vec_items, ap, ◌∙◌, subst, arith, rules}
+use Rattle.std.proofs.Common.{ℕ, ◌+◌, ◌^◌, ◌≤◌, List, length, vec_items, ap, ◌∙◌, subst, arith, rules}
 use Rattle.chacha20.specs.ChaCha20.{blocks, encrypt}
 use Rattle.seal_tasks.proofs.Buffers.{written}
 use Rattle.seal_tasks.proofs.Work.stream.Goals as goal

@@ -1,5 +1,5 @@
 -- The chip's new key is key i of those that were handed in.
-use Rattle.std.proofs.Common.{◌≡◌, ℕ, List, get_or, Ok, Err, Result, sym, refl, ap, ◌∙◌, subst, arith}
+use Rattle.std.proofs.Common.{◌≡◌, ℕ, List, get_or, Ok, Err, sym, refl, ap, ◌∙◌, subst, arith}
 use Rattle.sealing.specs.declared.key.Key.{Key}
 use Rattle.change.specs.Nodes.{bytes_in}
 use Rattle.change.proofs.Reading.{bytes_read}

@@ -1,5 +1,5 @@
 -- The siblings that were collected are those of the tree that is shown.
-use Rattle.std.proofs.Common.{◌≡◌, ℕ, List, ◌++◌, vec_items, ap, ◌∙◌}
+use Rattle.std.proofs.Common.{ℕ, List, ◌++◌, vec_items, ap, ◌∙◌}
 use Rattle.std.proofs.lemmas.Result.{err_from_is_err_and}
 use Rattle.storage.specs.Prepares.{content_in, record_bytes}
 use Rattle.storage.proofs.Answered.{fails_prepares}

@@ -1,11 +1,9 @@
 -- The room is as long as it was throughout, and the root's key is the one that the way down begins with.
-use Rattle.std.proofs.Common.{◌≡◌, ℕ, ◌<◌, List, length, take, replicate, sym, refl, ap, ◌∙◌, subst, arith, take_all}
+use Rattle.std.proofs.Common.{◌≡◌, ℕ, List, length, take, replicate, sym, refl, ap, ◌∙◌, subst, arith, take_all}
 use lib.ListN.{length-replicate}
 use Rattle.std.specs.Vec.{with_items}
 use Rattle.std.proofs.lemmas.List.{with_items_is}
 use Rattle.index.specs.Noted.{rows_of}
-use Rattle.forgetting.specs.Tree.{Tree}
-use Rattle.forgetting.specs.Change.{Numbered}
 use Rattle.descent.specs.Path.{Showing}
 use Rattle.storage.specs.Reads.{CopiesOut}
 use Rattle.storage.proofs.Answered.{fills, answers}

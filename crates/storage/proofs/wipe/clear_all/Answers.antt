@@ -1,6 +1,5 @@
-use Rattle.std.proofs.Common.{◌≡◌, ℕ, ◌<◌, ◌≤◌, false, length, is_some, sym, refl, ap, ◌∙◌, inl, inr, arith, below_more}
+use Rattle.std.proofs.Common.{◌<◌, length, is_some, ap, ◌∙◌, inl, inr, arith, below_more}
 use Rattle.std.proofs.lemmas.Bool.{cases_lt}
-use Rattle.change.specs.Nodes.{sibling_in}
 use Rattle.descent.proofs.Beside.{held_here, held_elsewhere, held_past}
 use Rattle.storage.proofs.wipe.clear_all.Goals as goal
 

@@ -1,4 +1,4 @@
-use Rattle.std.proofs.Common.{ℕ, List, [], ◌∷◌, ◌++◌, length, sym, refl, subst, w32, Fits}
+use Rattle.std.proofs.Common.{List, [], ◌∷◌, ◌++◌, length, sym, refl, subst, w32, Fits}
 use seplogic.Ra.Ura.{Ura}
 use mir.Syntax.{Fn, Args, Dict, a_type, dcons, dnil}
 use mir.MapTy.{inst_fn}
@@ -13,14 +13,14 @@ use contract.Monad.{Fun, fact_use}
 use contract.Running.{tables, tables_of}
 use sound.WpLaws.{WpFn-mono}
 use types.Kit.{‵, raw, ◌⊛◌, ◌$◌, ◌∵◌, !, qed, move, keep, split, join, fjoin, feq_i, fpack, suffices, done}
-use types.Run.{stop, returns, enter, no_more}
+use types.Run.{returns, enter, no_more}
 use types.Part.{agg}
 use types.ByLocal.{alloc_all, pass_all, free_all, look_at, sets}
 use denote.RattleType.{RattleType, owns, Valss}
 use denote.Param.{bounded, param}
 use denote.Struct.Owning.{shape}
 use denote.Struct.Struct.{within}
-use denote.Exit.{yes, no}
+use denote.Exit.{yes}
 use denote.Laws.{Are, Ises, owns_show, showss}
 use denote.Builtin.{RefOf, u32}
 use denote.Signature.{Slot, types_at, plain}

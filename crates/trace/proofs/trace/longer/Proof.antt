@@ -14,11 +14,10 @@ use sound.WpLaws.{WpFn-mono}
 use types.Kit.{‵, raw, ◌⊛◌, ◌$◌, ◌∵◌, !, qed, move, keep, split, join, fjoin, feq_i, fpack, suffices, done}
 use types.Run.{returns, enter, no_more}
 use types.Part.{agg}
-use types.ByLocal.{alloc_all, pass_all, free_all, look_at, sets, env}
+use types.ByLocal.{alloc_all, pass_all, free_all, look_at, sets}
 use denote.RattleType.{RattleType, owns, Valss}
 use denote.Struct.Owning.{shape}
 use denote.Struct.Struct.{within}
-use denote.Memory.{mem}
 use denote.Exit.{yes}
 use denote.Laws.{Are, Ises, owns_show, showss}
 use denote.Builtin.{RefOf, SliceRefOf, u8, u32, u64}
@@ -32,7 +31,7 @@ use denote.Triple.Entry.{on_entry, alive}
 use denote.Triple.Spec.{Meets, triple_of}
 use denote.Triple.Table.{entered}
 use denote.Triple.Walked.{says, Stays, stay_dropped, walk_of, ends_at, Goes-dropped, walk_Meets}
-use Rattle.trace.specs.contracts.trace.longer.{ended, clauses, signature}
+use Rattle.trace.specs.contracts.trace.longer.{ended, clauses}
 use Rattle.trace.specs.contracts.trace.longer.Key.{name as #self}
 use Rattle.trace.proofs.trace.longer.Statement as stated
 use Rattle.trace.proofs.trace.longer.Code as code

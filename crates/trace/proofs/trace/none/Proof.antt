@@ -1,4 +1,4 @@
-use Rattle.std.proofs.Common.{List, [], ◌∷◌, ◌++◌, refl}
+use Rattle.std.proofs.Common.{List, [], ◌∷◌, refl}
 use seplogic.Ra.Ura.{Ura}
 use mir.Syntax.{Fn}
 use mir.Val.{Val, vstruct, vnil}
@@ -14,11 +14,10 @@ use sound.WpLaws.{WpFn-mono}
 use types.Kit.{‵, raw, ◌⊛◌, ◌$◌, ◌∵◌, !, qed, move, keep, split, join, fjoin, feq_i, fpack, suffices, done}
 use types.Run.{returns, enter, no_more}
 use types.Part.{agg}
-use types.ByLocal.{alloc_all, pass_all, free_all, look_at, sets, env}
+use types.ByLocal.{alloc_all, pass_all, free_all, look_at, sets}
 use denote.RattleType.{owns, Valss}
 use denote.Struct.Owning.{shape}
 use denote.Struct.Struct.{within}
-use denote.Memory.{mem}
 use Rattle.trace.specs.contracts.trace.Trace.{the_type}
 use denote.Signature.{types_at}
 use denote.Steps.{nothing}
@@ -27,7 +26,7 @@ use denote.Triple.Entry.{alive}
 use denote.Triple.Spec.{Meets, triple_of}
 use denote.Triple.Table.{entered}
 use denote.Triple.Walked.{says, Stays, walk_of, ends_at, walk_Meets}
-use Rattle.trace.specs.contracts.trace.none.{ended, clauses, signature}
+use Rattle.trace.specs.contracts.trace.none.{ended, clauses}
 use Rattle.trace.specs.contracts.trace.none.Key.{name as #self}
 use Rattle.trace.proofs.trace.none.Statement as stated
 use Rattle.trace.proofs.trace.none.Code as code

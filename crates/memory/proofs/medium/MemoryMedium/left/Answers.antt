@@ -1,4 +1,4 @@
-use Rattle.std.proofs.Common.{◌≡◌, ℕ, ◌+◌, ◌-◌, true, List, take, vec_items, sym, refl, ap, ◌∙◌, subst, arith}
+use Rattle.std.proofs.Common.{◌≡◌, ℕ, ◌+◌, ◌-◌, take, vec_items, sym, ap, ◌∙◌, arith}
 use Rattle.trace.specs.Asked.{events}
 use Rattle.memory.specs.Stops.{is_left}
 use Rattle.memory.proofs.Steps.{left_of}

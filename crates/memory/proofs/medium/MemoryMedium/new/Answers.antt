@@ -1,5 +1,4 @@
-use Rattle.std.proofs.Common.{◌≡◌, vec_items, sym, refl, ap, ◌∙◌, arith}
-use Rattle.devices.specs.Events.{synced}
+use Rattle.std.proofs.Common.{vec_items, arith}
 use Rattle.trace.specs.Asked.{events}
 use Rattle.memory.proofs.Steps.{begins}
 use Rattle.memory.proofs.medium.MemoryMedium.new.Goals as goal

@@ -1,7 +1,7 @@
-use Rattle.std.proofs.Common.{◌≡◌, ℕ, List, ◌++◌, take, is_ok, vec_items, sym, refl, ap, ◌∙◌, inl, rules}
+use Rattle.std.proofs.Common.{◌≡◌, ℕ, ◌++◌, take, is_ok, vec_items, ap, ◌∙◌, inl, rules}
 use Rattle.std.proofs.lemmas.Bool.{both_ways, cond-true, cond-false}
 use Rattle.trace.specs.Asked.{events}
-use Rattle.memory.proofs.Steps.{Kept, adds}
+use Rattle.memory.proofs.Steps.{adds}
 use Rattle.memory.proofs.Supplied.{supplied}
 use Rattle.memory.proofs.medium.MemoryMediumMedium.append.Goals as goal
 

@@ -1,6 +1,6 @@
 use Rattle.std.proofs.Common.{vec_items}
 use Rattle.trace.specs.Asked.{events}
-use Rattle.memory.proofs.Steps.{Kept, cuts, cuts_not}
+use Rattle.memory.proofs.Steps.{cuts, cuts_not}
 use Rattle.memory.proofs.Supplied.{goes_out}
 use Rattle.memory.proofs.medium.MemoryMediumMedium.cut.Goals as goal
 

@@ -1,6 +1,6 @@
 use Rattle.std.proofs.Common.{◌≡◌, ℕ, ◌+◌, ◌-◌, List, length, take, drop, vec_items, sym, ap, ◌∙◌, arith, rules}
 use Rattle.trace.specs.Asked.{events}
-use Rattle.memory.proofs.Steps.{Kept, gets}
+use Rattle.memory.proofs.Steps.{gets}
 use Rattle.memory.proofs.medium.MemoryMediumMedium.read_at.Goals as goal
 
 pub invariant_of-self : goal.invariant_of-self

@@ -1,6 +1,6 @@
 use Rattle.std.proofs.Common.{vec_items, arith}
 use Rattle.trace.specs.Asked.{events}
-use Rattle.memory.proofs.Steps.{Kept, syncs, goes_off}
+use Rattle.memory.proofs.Steps.{syncs, goes_off}
 use Rattle.memory.proofs.Supplied.{goes_out}
 use Rattle.memory.proofs.medium.MemoryMediumMedium.sync.Goals as goal
 

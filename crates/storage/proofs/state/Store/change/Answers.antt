@@ -1,5 +1,5 @@
 -- What was prepared is of the tree that the chip's key belongs to.
-use Rattle.std.proofs.Common.{◌≡◌, ℕ, ◌-◌, List, length, Some, Ok, Err, vec_items, sym, refl, ap, ◌∙◌, subst, arith}
+use Rattle.std.proofs.Common.{◌≡◌, ℕ, ◌-◌, List, length, Some, Ok, Err, vec_items, refl, ap, subst}
 use Rattle.std.proofs.lemmas.Result.{err_from_is_err_and}
 use Rattle.change.specs.Nodes.{bytes_in}
 use Rattle.descent.specs.Path.{OfShown}

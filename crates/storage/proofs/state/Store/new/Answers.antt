@@ -1,5 +1,5 @@
 -- An empty medium shows the empty tree.
-use Rattle.std.proofs.Common.{◌≡◌, ℕ, List, [], length, sym, refl, ap, subst}
+use Rattle.std.proofs.Common.{ℕ, List, length, sym, refl, ap, subst}
 use Rattle.forgetting.specs.Tree.{bare}
 use Rattle.forgetting.specs.Change.{Numbered}
 use Rattle.index.specs.Noted.{rows_of}

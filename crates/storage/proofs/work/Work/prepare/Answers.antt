@@ -1,5 +1,5 @@
 -- The room and the siblings are as long as they were.
-use Rattle.std.proofs.Common.{◌≡◌, List, length, is_some, ap, ◌∙◌}
+use Rattle.std.proofs.Common.{is_some, ap, ◌∙◌}
 use Rattle.std.proofs.lemmas.List.{with_items_is}
 use Rattle.change.specs.Nodes.{sibling_in}
 use Rattle.storage.proofs.work.Work.prepare.Goals as goal
