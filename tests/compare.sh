@@ -1,20 +1,23 @@
 #!/usr/bin/env bash
-# Compares the proved program with the reference program, with the values of RFC 8439, and with tables of right answers.
-# REHEARSE names the program under test; by default it is built here.
+# Compares the proved programs with the reference program, with the values of RFC 8439, and with tables of right answers.
+# REHEARSE and REHEARSE_STORE name the programs under test; by default they are built here.
 set -euo pipefail
 cd "$(dirname "${BASH_SOURCE[0]}")/.."
 
 rehearse=$(realpath -m "${REHEARSE:-$(bash tests/program.sh rehearse)}")
+rehearse_store=$(realpath -m "${REHEARSE_STORE:-$(bash tests/program.sh rehearse_store)}")
 reference=reference/target/release/reference
 seed=8439
 count=12000
 changes_count=4000
 plays_count=4000
 
-if [ ! -x "$rehearse" ]; then
-    echo "compare: there is no program $rehearse" >&2
-    exit 1
-fi
+for program in "$rehearse" "$rehearse_store"; do
+    if [ ! -x "$program" ]; then
+        echo "compare: there is no program $program" >&2
+        exit 1
+    fi
+done
 
 work=$(mktemp -d)
 trap 'rm -rf "$work"' EXIT
@@ -81,22 +84,33 @@ quietly cargo build --release --offline --manifest-path reference/Cargo.toml
 quietly cargo test --release --offline --manifest-path reference/Cargo.toml
 echo "reference's own tests: $(sed -n 's/^test result: ok\. \([0-9]* passed\).*/\1/p' "$work/log" | head -n 1)"
 
-for table in rfc8439 malformed changes plays; do
-    answers_of "rehearse, $table" "tests/$table.lines" "$work/rehearse" "$rehearse"
-    agree "rehearse, $table" "tests/$table.lines" "$work/rehearse" "tests/$table.expected"
-    answers_of "reference, $table" "tests/$table.lines" "$work/reference" "$reference" lines
-    agree "reference, $table" "tests/$table.lines" "$work/reference" "tests/$table.expected"
-done
-
-# compare_generated NAME COMMAND COUNT: both programs answer the same to so many generated lines.
-compare_generated() {
-    local name=$1 command=$2 lines=$3
-    "$reference" "$command" "$seed" "$lines" >"$work/lines"
-    answers_of "reference, $name" "$work/lines" "$work/reference" "$reference" lines
-    answers_of "rehearse, $name" "$work/lines" "$work/rehearse" "$rehearse"
-    agree "rehearse and reference, $lines $name lines" "$work/lines" "$work/rehearse" "$work/reference"
+# check_table NAME TABLE PROGRAM [WORDS...]: the program answers a table's lines as it should.
+check_table() {
+    local name=$1 table=$2
+    shift 2
+    answers_of "$name, $table" "tests/$table.lines" "$work/answers" "$@"
+    agree "$name, $table" "tests/$table.lines" "$work/answers" "tests/$table.expected"
 }
 
-compare_generated "generated" generate "$count"
-compare_generated "generated change" generate-changes "$changes_count"
-compare_generated "generated play" generate-plays "$plays_count"
+# compare_generated NAME PROGRAM KIND COMMAND COUNT: the program and the reference answer the same to so many generated lines.
+compare_generated() {
+    local name=$1 program=$2 kind=$3 command=$4 lines=$5
+    "$reference" "$command" "$seed" "$lines" >"$work/lines"
+    answers_of "reference, $kind" "$work/lines" "$work/reference" "$reference" lines
+    answers_of "$name, $kind" "$work/lines" "$work/answers" "$program"
+    agree "$name and reference, $lines $kind lines" "$work/lines" "$work/answers" "$work/reference"
+}
+
+# The plays, with power cuts, looks and verdicts, are for the program over the store.
+for table in rfc8439 malformed changes; do
+    check_table rehearse "$table" "$rehearse"
+done
+compare_generated rehearse "$rehearse" generated generate "$count"
+compare_generated rehearse "$rehearse" "generated change" generate-changes "$changes_count"
+for table in rfc8439 malformed changes plays; do
+    check_table rehearse_store "$table" "$rehearse_store"
+    check_table reference "$table" "$reference" lines
+done
+compare_generated rehearse_store "$rehearse_store" generated generate "$count"
+compare_generated rehearse_store "$rehearse_store" "generated change" generate-changes "$changes_count"
+compare_generated rehearse_store "$rehearse_store" "generated play" generate-plays "$plays_count"

@@ -65,6 +65,10 @@ def main(kit, folders):
             out += "_lem"
         if out != name:
             rows[name] = out
+    # a theorem, and what `ghost use` lines of src/ call definitions
+    rows["Decodes-again"] = "DecodesAgain"
+    for alias in ("digitOf", "grownBy", "letterOf", "outRecord"):
+        rows[alias] = snake(alias)
     taken = set(names) | library
     back = collections.defaultdict(list)
     for old, new in rows.items():

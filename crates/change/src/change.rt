@@ -1,6 +1,6 @@
 // One change of one place: the refusals, and the records at the end of a buffer.
 ghost use Rattle.std.specs.Prelude.{◌≡◌, ℕ, ◌+◌, ◌-◌, ◌^◌, ◌<◌, ◌≤◌, List, [], ◌∷◌, ◌++◌, length, replicate, Some, None};
-ghost use Rattle.records.specs.Format.{encode as encoded, out as outRecord};
+ghost use Rattle.records.specs.Format.{encode as encoded, out as out_record};
 ghost use Rattle.change.specs.Coded.{coded_content};
 ghost use Rattle.change.specs.Nodes.{drawn_key, Extends};
 ghost use Rattle.change.specs.Turns.{turns_bytes};
@@ -58,7 +58,7 @@ fn write_out<S: Sealing>(
     out: &mut Vec<u8>,
 ) -> Result<(), AllocError>
     requires { (levels ≤ length keys.now) × ((last + 1 + levels < 2 ^ 32) × (levels ≤ length siblings.now)) }
-    ensures { Extends result out.old.items (encoded (outRecord node.number (last + 1)) ++ turns_bytes S.sealed node.number 0 last keys.now siblings.now levels) out.new.items }
+    ensures { Extends result out.old.items (encoded (out_record node.number (last + 1)) ++ turns_bytes S.sealed node.number 0 last keys.now siblings.now levels) out.new.items }
 {
     push_out(node, last + 1, out)?;
     climb(cipher, node, levels, 0, keys, last, siblings, part, out)

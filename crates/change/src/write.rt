@@ -1,7 +1,7 @@
 // Sealing keys and contents, and writing their records.
 ghost use Rattle.std.specs.Prelude.{◌≡◌, ℕ, ◌+◌, ◌%◌, ◌<◌, ◌≤◌, List, [], ◌∷◌, ◌++◌, length, replicate, is_ok, if◌then◌else◌};
 ghost use Rattle.cipher.specs.Sealed.{slot_nonce, text_of};
-ghost use Rattle.records.specs.Format.{encode as encoded, out as outRecord};
+ghost use Rattle.records.specs.Format.{encode as encoded, out as out_record};
 ghost use Rattle.change.specs.Coded.{coded_key, coded_content, key_bytes};
 ghost use Rattle.change.specs.Nodes.{key_in};
 
@@ -120,7 +120,7 @@ pub(crate) fn push_content<S: Sealing>(
 
 // The record that a place was taken out; or `out` as it was.
 pub(crate) fn push_out(node: NodeId, next: u32, out: &mut Vec<u8>) -> Result<(), AllocError>
-    ensures { out.new.items ≡ (if is_ok result then out.old.items ++ encoded (outRecord node.number next) else out.old.items) }
+    ensures { out.new.items ≡ (if is_ok result then out.old.items ++ encoded (out_record node.number next) else out.old.items) }
 {
     let bytes = header(OUT, node.number, next);
     out.extend_from_slice(&bytes)

@@ -3,7 +3,7 @@ use Rattle.std.specs.Prelude.{◌≡◌, ℕ, ◌+◌, ◌-◌, ◌≤◌, List,
 use Rattle.std.proofs.Math.Path.{sym, ap}
 use Rattle.std.proofs.Common.{◌∙◌, arith}
 use borrow.Rule.Slice.PartMut.{put_mid}
-use Rattle.std.proofs.lemmas.List.{take_at, drop_at, drop_all, append-nil, length-append, length-take-le, length-drop, take-append-drop}
+use Rattle.std.proofs.lemmas.List.{append_cancel_right, take_at, drop_at, drop_all, append-nil, length-append, length-take-le, length-drop, take-append-drop}
 use Rattle.sealing.specs.Aead.{ciphertext, tag, longest, Authentic}
 use Rattle.sealing.specs.Open as Aead
 use Rattle.sealing.specs.declared.opening.Opening.{Opening}
@@ -34,6 +34,16 @@ pub length-standard : (key nonce marked text : List ℕ) → length (standard ke
 unfolding standard
 length-standard key nonce marked text =
     simp (length-append, length-ciphertext, length-tag)
+
+pub length-transparent : (key nonce marked text : List ℕ) → length key ≡ 32 → length (transparent key nonce marked text) ≡ length text + 16
+unfolding transparent
+length-transparent key nonce marked text h =
+    let l = length-take-le 16 key (omega arith) in
+    simp length-append (omega arith)
+
+pub transparent-apart : (key nonce marked one other : List ℕ) → transparent key nonce marked one ≡ transparent key nonce marked other → one ≡ other
+unfolding transparent
+transparent-apart key nonce marked one other e = append_cancel_right one other (take 16 key) e
 
 -- The sealed text and the mark that a sealed part is made of.
 standard-front : (key nonce marked text sealed mark : List ℕ) → length sealed ≡ length text → standard key nonce marked text ≡ sealed ++ mark

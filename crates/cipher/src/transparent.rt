@@ -1,8 +1,7 @@
 // Sealing that hides nothing, for rehearsals in which keys are numbers of 16 bytes, with zeros after them: it opens under its own key and no other.
 ghost use Rattle.std.specs.Prelude.{◌≡◌, ℕ, ◌+◌, ◌-◌, ◌≤◌, List, ◌++◌, length, take, drop, Decides};
 ghost use Rattle.cipher.specs.Sealed.{transparent};
-ghost use Rattle.std.proofs.Common.{arith};
-ghost use Rattle.std.proofs.lemmas.List.{length-append, length-take-le, append_cancel_right};
+ghost use Rattle.cipher.specs.Parts.{length-transparent, transparent-apart};
 
 use crate::sealing_trait::Sealing;
 use sealing::key::Key;
@@ -34,12 +33,9 @@ impl Sealing for Transparent {
 
     ghost clear = { λ _. Unit {0} };
 
-    ghost long = { unfold transparent in
-        λ key nonce marked text h.
-        let l = length-take-le 16 key (omega arith) in
-        simp length-append (omega arith) };
+    ghost long = { λ key nonce marked text h. length-transparent key nonce marked text h };
 
-    ghost apart = { unfold transparent in λ key nonce marked one other h e. append_cancel_right one other (take 16 key) e };
+    ghost apart = { λ key nonce marked one other h e. transparent-apart key nonce marked one other e };
 
     fn seal(&mut self, key: &Key, nonce: &Nonce, marked: &[u8], part: &mut [u8]) {
         let at = part.len() - 16;

@@ -27,5 +27,5 @@ pub trait Chip: Sized {
 
     // Gives it a key with its number in place of the one that it holds, beside a medium.
     fn replaced<M: Medium>(self, key: &Key, number: u32, medium: &M) -> Replaced<Self>
-        ensures { Gives holds given self (given_now number key.now.bytes (M.Medium.log medium.now)) result };
+        ensures { Gives holds given self (given_now number key.now.bytes (M.log medium.now)) result };
 }

@@ -3,12 +3,12 @@ use Rattle.std.proofs.Common.{◌≡◌, ℕ, ◌+◌, ◌-◌, ◌*◌, ◌/◌
 use native.Mathlib.Nat.{div-add-mod}
 use Rattle.std.proofs.lemmas.List.{at_drop_more}
 use Rattle.std.proofs.lemmas.Bool.Decides.{nat_tests}
-use Rattle.hex_text.specs.Hex.{digit, byte, before, decode, letter, pair, encode, Decodes-again}
+use Rattle.hex_text.specs.Hex.{digit, byte, before, decode, letter, pair, encode, DecodesAgain}
 
 digit-letter : (d : ℕ) → d < 16 → digit (letter d) ≡ Some d
 digit-letter d h = grind (arith, nat_tests)
 
-pub decodes_again : Decodes-again
+pub decodes_again : DecodesAgain
 decodes_again [] _ = refl
 decodes_again (b ∷ bytes) (h, hs) =
     let high : b / 16 < 16 = omega arith in

@@ -49,5 +49,5 @@ Bytes [] = Unit {0}
 Bytes (b ∷ bytes) = (b < 256) × Bytes bytes
 
 -- What was encoded decodes to what it was.
-abbrev pub Decodes-again : Type 0
-Decodes-again = (bytes : List ℕ) → Bytes bytes → decode (encode bytes) ≡ Some bytes
+abbrev pub DecodesAgain : Type 0
+DecodesAgain = (bytes : List ℕ) → Bytes bytes → decode (encode bytes) ≡ Some bytes

@@ -2,15 +2,15 @@
 #![tactic(auto)]
 
 ghost use Rattle.std.specs.Prelude.{◌≡◌, ◌<◌, ◌++◌, IfOk, vec_items, string_bytes, OnOk};
-ghost use Rattle.hex_text.specs.Hex.{digit as digitOf, byte as byte_of, decode as decoded};
-ghost use Rattle.hex_text.specs.Hex.{letter as letterOf, pair, encode as encoded, Decodes-again};
+ghost use Rattle.hex_text.specs.Hex.{digit as digit_of, byte as byte_of, decode as decoded};
+ghost use Rattle.hex_text.specs.Hex.{letter as letter_of, pair, encode as encoded, DecodesAgain};
 ghost use Rattle.std.specs.Option.{option_map};
 
 use std::alloc::{AllocError, Global};
 
 // The value of a digit.
 fn digit(letter: u8) -> Option<u8>
-    ensures { result ≡ digitOf letter }
+    ensures { result ≡ digit_of letter }
 {
     match letter {
         b'0'..=b'9' => Some(letter - b'0'),
@@ -30,7 +30,7 @@ fn byte(high: u8, low: u8) -> Option<u8>
 // The character of a digit.
 fn letter(digit: u8) -> char
     requires { digit < 16 }
-    ensures value { result ≡ letterOf digit }
+    ensures value { result ≡ letter_of digit }
     ensures ascii { result < 128 }
 {
     if digit < 10 {
@@ -82,7 +82,7 @@ pub fn encode(heap: Global, bytes: &[u8]) -> Result<String, AllocError>
 
 // What was encoded decodes to what it was.
 pub fn decodes_again() -> u8
-    ensures { Decodes-again }
+    ensures { DecodesAgain }
 {
     0
 }

@@ -63,7 +63,7 @@ impl Chip for MemoryChip {
 
     // It fails where it was told to.
     fn replaced<M: Medium>(mut self, key: &Key, number: u32, medium: &M) -> Replaced<MemoryChip>
-        ensures gives { Gives (λ c. held c.slot) (λ c. givens c.ledger.keys) self (given_now number key.now.bytes (M.Medium.log medium.now)) result }
+        ensures gives { Gives (λ c. held c.slot) (λ c. givens c.ledger.keys) self (given_now number key.now.bytes (M.log medium.now)) result }
         ensures told { Told self.failing (held self.slot) (record { number = number; bytes = key.now.bytes }) result }
     {
         let ledger = self.ledger.given(number, key, medium);

@@ -1,4 +1,4 @@
--- Laws of `absorbAll`, `padded` and `mac`.
+-- Laws of `absorb_all`, `padded` and `mac`.
 use Rattle.std.proofs.Common.{◌≡◌, ℕ, zero, suc, ◌+◌, ◌*◌, ◌/◌, ◌%◌, ◌≤◌, List, ◌++◌, length, take, drop, refl, ap, ◌∙◌, suc-add, zero-add, arith}
 use Rattle.std.proofs.lemmas.List.{length-append, length-drop, length-replicate, nil_from_length, take-append-le, drop-append-le, drop-drop}
 use Rattle.octets.specs.Endian.{le, le_bytes}

@@ -1,8 +1,8 @@
 // Answers the lines of standard input, one answer a line.
 #![tactic(auto)]
 
-use play_lines::answer;
-use seal_tasks::Work;
+use lines::answer;
+use lines::tasks::Work;
 use std::alloc::Global;
 use std::io;
 use std::io::{BufRead, BufReader, Write};

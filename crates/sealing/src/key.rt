@@ -1,4 +1,4 @@
-// Keys: 32 secret bytes, moved and wiped, never copied.
+// Keys: 32 secret bytes, filled from buffers and wiped; no key is copied.
 ghost use Rattle.std.specs.Prelude.{◌≡◌, ◌≤◌, length, take, replicate};
 
 // A key can't be copied, and it can be let go only where it is proved to be wiped.

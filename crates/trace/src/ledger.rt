@@ -26,7 +26,7 @@ impl Drop for Ledger {
 
 // The ledger after a key more, given beside a medium.
 fn longer<M: Medium>(old: &Ledger, number: u32, key: &Key, medium: &M) -> Ledger
-    ensures { result.keys ≡ (length (changes (M.Medium.log medium.now)), (number, key.now.bytes)) ∷ old.now.keys }
+    ensures { result.keys ≡ (length (changes (M.log medium.now)), (number, key.now.bytes)) ∷ old.now.keys }
 {
     Ledger {}
 }
@@ -46,7 +46,7 @@ impl Ledger {
     }
 
     pub fn given<M: Medium>(&self, number: u32, key: &Key, medium: &M) -> Ledger
-        ensures { givens result.keys ≡ given_now number key.now.bytes (M.Medium.log medium.now) ∷ givens self.now.keys }
+        ensures { givens result.keys ≡ given_now number key.now.bytes (M.log medium.now) ∷ givens self.now.keys }
     {
         longer(self, number, key, medium)
     }

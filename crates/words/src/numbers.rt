@@ -1,10 +1,10 @@
 // Numbers as decimal digits.
 ghost use Rattle.std.specs.Prelude.{◌≡◌};
-ghost use Rattle.words.specs.Numbers.{number as number_of, grown as grownBy};
+ghost use Rattle.words.specs.Numbers.{number as number_of, grown as grown_by};
 
 // A number with one more digit behind it; none where the character is no digit or the number gets too large.
 fn grown(number: u32, letter: u8) -> Option<u32>
-    ensures { result ≡ grownBy number letter }
+    ensures { result ≡ grown_by number letter }
 {
     if !letter.is_ascii_digit() {
         return None;
