@@ -1,5 +1,5 @@
 # make demo    runs the main job, in a way that a person can follow
-# make test    proves everything from nothing and passes all tests; the last line is 'N passed, 0 failed'
+# make test    proves everything and passes all tests; the last line is 'N passed, 0 failed'
 # make memory  searches a core of the waiting program for keys
 # make bench   measures sealing beside OpenSSL and libsodium
 .PHONY: demo test memory bench

@@ -1,5 +1,5 @@
 #!/usr/bin/env bash
-# Proves everything from nothing, then compares the programs. rt's own last line, 'N passed, 0 failed', is printed last, and only if all of it passed.
+# Proves everything, then compares the programs. rt's own last line, 'N passed, 0 failed', is printed last, and only if all of it passed.
 set -euo pipefail
 cd "$(dirname "${BASH_SOURCE[0]}")/.."
 
