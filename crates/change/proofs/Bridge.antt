@@ -15,7 +15,7 @@ use Rattle.forgetting.proofs.Climbing.{climbs, climbed-same}
 use Rattle.forgetting.specs.Climb.{path_node, sibling_node, sibling_key, path_slot, sibling_slot, path_key, first_record, turn_records, climbed}
 use Rattle.sealing.specs.declared.key.Key.{Key}
 use Rattle.tree.specs.Nodes.{sibling_of}
-use Rattle.change.specs.declared.node.Node.{Node as CodeNode}
+use Rattle.change.specs.declared.node.NodeKey.{NodeKey}
 use Rattle.change.specs.Coded.{Cipher, node_number, coded, coded_content, bytes_of, key_bytes}
 use Rattle.change.specs.Nodes.{sibling_in, bytes_in, drawn_key, drawn_before, first_of}
 use Rattle.change.specs.Turns.{turn_bytes, turns_bytes}
@@ -127,7 +127,7 @@ turn-bytes sealed d p h w last keys siblings below =
     ∙ same_bytes sealed _ _ _ _ _ _ _ _ (sibling_number d p h below) (sibling_slot_lem d p h below) (counted-drawn w last keys h) refl)
 
 -- The first h turns: what is written of the place, and then what the turns write.
-climbed-bytes : (sealed : Cipher) (d p next : ℕ) (w : Option (List ℕ)) (last : ℕ) (keys : List Key) (nodes : List CodeNode) (h : ℕ) → h ≤ d
+climbed-bytes : (sealed : Cipher) (d p next : ℕ) (w : Option (List ℕ)) (last : ℕ) (keys : List Key) (nodes : List (Option NodeKey)) (h : ℕ) → h ≤ d
     → bytes_of sealed d (climbed next p w (counted w last (bytes_in keys)) (sibling_in nodes) h)
     ≡ bytes_of sealed d (first_record next p w (counted w last (bytes_in keys)) ∷ []) ++ turns_bytes sealed (2 ^ d + p) (first_of w) last keys nodes h
 unfolding climbed turns_bytes
@@ -138,7 +138,7 @@ climbed-bytes sealed d p next w last keys nodes (suc h) l =
     ∙ append_assoc (bytes_of sealed d (first_record next p w (counted w last (bytes_in keys)) ∷ [])) (turns_bytes sealed (2 ^ d + p) (first_of w) last keys nodes h) (turn_bytes sealed ((2 ^ d + p) / 2 ^ h) last keys (h + first_of w) (sibling_in nodes h))
 
 -- The records of the change of place p in a tree that has those siblings' keys.
-pub change-bytes : (sealed : Cipher) (d p next : ℕ) (w : Option (List ℕ)) (last : ℕ) (keys : List Key) (nodes : List CodeNode) (t : Tree Numbered (List ℕ)) → p < 2 ^ d
+pub change-bytes : (sealed : Cipher) (d p next : ℕ) (w : Option (List ℕ)) (last : ℕ) (keys : List Key) (nodes : List (Option NodeKey)) (t : Tree Numbered (List ℕ)) → p < 2 ^ d
     → ((h : ℕ) → h < d → sibling_in nodes h ≡ sibling_key d p h t)
     → bytes_of sealed d (records next (root d) (single w (counted w last (bytes_in keys)) d p) t)
     ≡ bytes_of sealed d (first_record next p w (counted w last (bytes_in keys)) ∷ []) ++ turns_bytes sealed (2 ^ d + p) (first_of w) last keys nodes d
@@ -169,7 +169,7 @@ first_out sealed d p next last keys =
     ∙ ap (λ n. encode (Format.out n next)) (place-number d p)
 
 -- The whole of a put, and of a taking out.
-module _ (sealed : Cipher) (d p node last : ℕ) (keys : List Key) (nodes : List CodeNode) (t : Tree Numbered (List ℕ)) (inside : p < 2 ^ d) (is : node ≡ 2 ^ d + p)
+module _ (sealed : Cipher) (d p node last : ℕ) (keys : List Key) (nodes : List (Option NodeKey)) (t : Tree Numbered (List ℕ)) (inside : p < 2 ^ d) (is : node ≡ 2 ^ d + p)
     (siblings : (h : ℕ) → h < d → sibling_in nodes h ≡ sibling_key d p h t) where
   pub put_bytes : (content : List ℕ)
       → encode (coded_content sealed node 0 (drawn_key last keys 0) content) ++ turns_bytes sealed node 1 last keys nodes d

@@ -3,3 +3,4 @@ pub mod Extending
 pub mod Reading
 pub mod Parts
 pub mod Turning
+pub mod Siblings

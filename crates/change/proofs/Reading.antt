@@ -4,7 +4,7 @@ use Rattle.std.proofs.lemmas.List.{get_or-map, get_or-set_same, get_or-set_other
 use Rattle.std.proofs.lemmas.Bool.{cases_eq}
 use Rattle.forgetting.specs.Change.{Numbered}
 use Rattle.sealing.specs.declared.key.Key.{Key}
-use Rattle.change.specs.declared.node.Node.{Node}
+use Rattle.change.specs.declared.node.NodeKey.{NodeKey}
 use Rattle.records.specs.Format.{encode}
 use Rattle.change.specs.Coded.{Cipher, coded_key, coded_content, key_bytes}
 use Rattle.change.specs.Nodes.{key_in, sibling_in, bytes_in, drawn_key, drawn_before}
@@ -13,7 +13,7 @@ use Rattle.change.specs.Nodes.{key_in, sibling_in, bytes_in, drawn_key, drawn_be
 pub bytes_read : (keys : List Key) (j : ℕ) (key : Key) → j < length keys → key ≡ get_or keys j key → bytes_in keys j ≡ key.bytes
 bytes_read keys j key h e = get_or-map (λ (k : Key). k.bytes) keys j key [] h ∙ ap (λ (k : Key). k.bytes) (sym e)
 
-pub sibling_read : (nodes : List Node) (h : ℕ) (node : Node) → h < length nodes → node ≡ get_or nodes h node → sibling_in nodes h ≡ key_in node
+pub sibling_read : (nodes : List (Option NodeKey)) (h : ℕ) (node : Option NodeKey) → h < length nodes → node ≡ get_or nodes h node → sibling_in nodes h ≡ key_in node
 sibling_read nodes h node l e = get_or-map key_in nodes h node None l ∙ ap key_in (sym e)
 
 -- The record of the key drawn before key j, under key j.

@@ -1,22 +1,21 @@
 -- What the code's nodes and keys stand for.
-use Rattle.std.specs.Prelude.{◌≡◌, ℕ, zero, suc, ◌+◌, List, [], ◌++◌, map, length, take, Some, None, Ok, Err, Option, Result, slice_index_or}
+use Rattle.std.specs.Prelude.{◌≡◌, ℕ, zero, suc, ◌+◌, false, is_some, List, [], ◌++◌, map, length, take, Some, None, Ok, Err, Option, Result, slice_index_or}
 use Rattle.forgetting.specs.Change.{Numbered}
 use Rattle.sealing.specs.declared.key.Key.{Key}
-use Rattle.change.specs.declared.node.Held.{Held}
-use Rattle.change.specs.declared.node.Held.TheVariants.{Nothing, Secret}
-use Rattle.change.specs.declared.node.Node.{Node}
+use Rattle.change.specs.declared.node.NodeKey.{NodeKey}
 
-abbrev pub held_key : (number : ℕ) → Held → Option Numbered
-held_key number Nothing = None
-held_key number (Secret key) = Some (record { number = number; bytes = key.bytes })
-
--- The key that a node has.
-abbrev pub key_in : Node → Option Numbered
-key_in node = held_key node.number node.held
+-- The key that a node has, as far as it has one.
+abbrev pub key_in : Option NodeKey → Option Numbered
+key_in None = None
+key_in (Some held) = Some (record { number = held.number; bytes = held.key.bytes })
 
 -- The key of the sibling on the path, h levels above the place.
-abbrev pub sibling_in : List Node → ℕ → Option Numbered
+abbrev pub sibling_in : List (Option NodeKey) → ℕ → Option Numbered
 sibling_in nodes h = slice_index_or (map key_in nodes) h None
+
+-- None of the nodes has a key.
+abbrev pub Keyless : List (Option NodeKey) → Type 0
+Keyless nodes = (h : ℕ) → is_some (sibling_in nodes h) ≡ false
 
 -- The bytes of key j of a list.
 abbrev pub bytes_in : List Key → ℕ → List ℕ

@@ -9,7 +9,7 @@ use Rattle.forgetting.specs.Tree.{Tree}
 use Rattle.forgetting.specs.Change.{records, single, draws, counted, Numbered}
 use Rattle.forgetting.specs.Climb.{sibling_key}
 use Rattle.forgetting.specs.History.{root}
-use Rattle.change.specs.declared.node.Node.{Node}
+use Rattle.change.specs.declared.node.NodeKey.{NodeKey}
 use Rattle.change.specs.declared.failure.Failure.{Failure}
 use Rattle.change.specs.declared.failure.Failure.TheVariants.{Refused, Memory}
 use Rattle.change.specs.Coded.{Cipher, bytes_of}
@@ -38,11 +38,11 @@ Checked levels place w given last (Ok node) =
 Checked levels place w given last (Err f) = refusal levels place w given last ≡ Some f
 
 -- The nodes are the siblings along the path to a place in a tree.
-abbrev pub Siblings : (levels place : ℕ) → Tree Numbered (List ℕ) → List Node → Type 0
+abbrev pub Siblings : (levels place : ℕ) → Tree Numbered (List ℕ) → List (Option NodeKey) → Type 0
 Siblings levels place t nodes = (h : ℕ) → h < levels → sibling_in nodes h ≡ sibling_key levels place h t
 
 -- Answered, with the number of the root's new key: the bytes of the change's records follow what was there, whatever tree it is of which these are the siblings along the path. Refused, or out of memory: nothing was written.
-abbrev pub Writes : Cipher → (levels place : ℕ) → Option (List ℕ) → (keys : List Key) (last : ℕ) (nodes : List Node) (before : List ℕ) → Result ℕ Failure → (after : List ℕ) → Type 0
+abbrev pub Writes : Cipher → (levels place : ℕ) → Option (List ℕ) → (keys : List Key) (last : ℕ) (nodes : List (Option NodeKey)) (before : List ℕ) → Result ℕ Failure → (after : List ℕ) → Type 0
 Writes sealed levels place w keys last nodes before (Ok number) after =
     (refusal levels place w (length keys) last ≡ None) × (number ≡ last + draws w levels)
     × ((t : Tree Numbered (List ℕ)) → Siblings levels place t nodes → after ≡ before ++ bytes_of sealed levels (records (last + 1) (root levels) (single w (counted w last (bytes_in keys)) levels place) t))

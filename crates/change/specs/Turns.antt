@@ -3,7 +3,7 @@ use Rattle.std.specs.Prelude.{ℕ, zero, suc, ◌+◌, ◌/◌, ◌%◌, ◌^◌
 use Rattle.forgetting.specs.Change.{Numbered}
 use Rattle.sealing.specs.declared.key.Key.{Key}
 use Rattle.tree.specs.Nodes.{sibling_of}
-use Rattle.change.specs.declared.node.Node.{Node}
+use Rattle.change.specs.declared.node.NodeKey.{NodeKey}
 use Rattle.change.specs.Coded.{Cipher, key_bytes}
 use Rattle.change.specs.Nodes.{sibling_in, drawn_key, drawn_before}
 
@@ -14,7 +14,7 @@ turn_bytes sealed node last keys j siblings =
     ++ key_bytes sealed (sibling_of node) (sibling_of node % 2) (drawn_key last keys j) siblings
 
 -- The first h turns from a node up; first: the index of the key that the node above it gets.
-unfoldable pub turns_bytes : Cipher → (start first last : ℕ) (keys : List Key) (siblings : List Node) (h : ℕ) → List ℕ
+unfoldable pub turns_bytes : Cipher → (start first last : ℕ) (keys : List Key) (siblings : List (Option NodeKey)) (h : ℕ) → List ℕ
 turns_bytes sealed start first last keys siblings zero = []
 turns_bytes sealed start first last keys siblings (suc h) =
     turns_bytes sealed start first last keys siblings h ++ turn_bytes sealed (start / 2 ^ h) last keys (h + first) (sibling_in siblings h)

@@ -10,7 +10,7 @@ use crate::check::{check_out, check_put};
 use crate::climb::climb;
 use crate::failure::Failure;
 use crate::keys::hand_over;
-use crate::node::Node;
+use crate::node::NodeKey;
 use crate::write::{push_content, push_out};
 use cipher::sealing_trait::Sealing;
 use sealing::key::Key;
@@ -25,7 +25,7 @@ fn write_put<S: Sealing>(
     content: &[u8],
     keys: &[Key],
     last: u32,
-    siblings: &[Node],
+    siblings: &[Option<NodeKey>],
     part: &mut [u8; 48],
     room: &mut [u8],
     out: &mut Vec<u8>,
@@ -53,7 +53,7 @@ fn write_out<S: Sealing>(
     levels: usize,
     keys: &[Key],
     last: u32,
-    siblings: &[Node],
+    siblings: &[Option<NodeKey>],
     part: &mut [u8; 48],
     out: &mut Vec<u8>,
 ) -> Result<(), AllocError>
@@ -72,7 +72,7 @@ pub fn put<S: Sealing>(
     content: &[u8],
     keys: &[Key],
     last: u32,
-    siblings: &[Node],
+    siblings: &[Option<NodeKey>],
     part: &mut [u8; 48],
     room: &mut [u8],
     out: &mut Vec<u8>,
@@ -111,7 +111,7 @@ pub fn take_out<S: Sealing>(
     place: u32,
     keys: &[Key],
     last: u32,
-    siblings: &[Node],
+    siblings: &[Option<NodeKey>],
     part: &mut [u8; 48],
     out: &mut Vec<u8>,
 ) -> Result<u32, Failure>
@@ -148,7 +148,7 @@ pub fn put_and_hand_over<S: Sealing>(
     content: &[u8],
     keys: &mut [Key],
     last: u32,
-    siblings: &[Node],
+    siblings: &[Option<NodeKey>],
     part: &mut [u8; 48],
     room: &mut [u8],
     out: &mut Vec<u8>,
@@ -180,7 +180,7 @@ pub fn take_out_and_hand_over<S: Sealing>(
     place: u32,
     keys: &mut [Key],
     last: u32,
-    siblings: &[Node],
+    siblings: &[Option<NodeKey>],
     part: &mut [u8; 48],
     out: &mut Vec<u8>,
     root: &mut Key,

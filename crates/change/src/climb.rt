@@ -4,7 +4,7 @@ ghost use Rattle.change.specs.Coded.{key_bytes};
 ghost use Rattle.change.specs.Nodes.{key_in, drawn_key, drawn_before, Extends};
 ghost use Rattle.change.specs.Turns.{turn_bytes, turns_bytes};
 
-use crate::node::Node;
+use crate::node::NodeKey;
 use crate::write::{push_key, push_node};
 use cipher::sealing_trait::Sealing;
 use sealing::key::Key;
@@ -47,7 +47,7 @@ fn push_both<S: Sealing>(
     j: usize,
     keys: &[Key],
     last: u32,
-    sibling: &Node,
+    sibling: &Option<NodeKey>,
     part: &mut [u8; 48],
     out: &mut Vec<u8>,
 ) -> Result<(), AllocError>
@@ -67,7 +67,7 @@ pub(crate) fn climb<S: Sealing>(
     first: usize,
     keys: &[Key],
     last: u32,
-    siblings: &[Node],
+    siblings: &[Option<NodeKey>],
     part: &mut [u8; 48],
     out: &mut Vec<u8>,
 ) -> Result<(), AllocError>

@@ -5,7 +5,7 @@ ghost use Rattle.records.specs.Format.{encode as encoded, out as out_record};
 ghost use Rattle.change.specs.Coded.{coded_key, coded_content, key_bytes};
 ghost use Rattle.change.specs.Nodes.{key_in};
 
-use crate::node::{Held, Node};
+use crate::node::NodeKey;
 use cipher::nonce::slot_nonce;
 use cipher::sealing_trait::Sealing;
 use records::encode::{encode, header};
@@ -68,7 +68,7 @@ pub(crate) fn push_key<S: Sealing>(
 pub(crate) fn push_node<S: Sealing>(
     cipher: &mut S,
     id: NodeId,
-    node: &Node,
+    node: &Option<NodeKey>,
     under: u32,
     above: &Key,
     part: &mut [u8; 48],
@@ -76,9 +76,9 @@ pub(crate) fn push_node<S: Sealing>(
 ) -> Result<(), AllocError>
     ensures out { out.new.items ≡ (if is_ok result then out.old.items ++ key_bytes S.sealed id.number (id.number % 2) (record { number = under; bytes = above.now.bytes }) (key_in node.now) else out.old.items) }
 {
-    match &node.held {
-        Held::Nothing => Ok(()),
-        Held::Secret(key) => push_key(cipher, id, node.number, key, under, above, part, out),
+    match node {
+        None => Ok(()),
+        Some(held) => push_key(cipher, id, held.number, &held.key, under, above, part, out),
     }
 }
 
