@@ -1,5 +1,5 @@
 -- The keys that nodes have, one by one.
-use Rattle.std.proofs.Common.{◌≡◌, ℕ, zero, suc, ◌+◌, ◌<◌, ◌≤◌, List, [], ◌∷◌, ◌++◌, length, set, false, is_some, Some, None, Option, sym, refl, ap, ◌∙◌, arith}
+use Rattle.std.proofs.Common.{◌≡◌, ℕ, zero, suc, ◌<◌, ◌≤◌, List, [], ◌∷◌, ◌++◌, length, set, Some, None, Option, sym, refl, ap, arith}
 use borrow.Author.Tests.{clash}
 use Rattle.change.specs.Nodes.{key_in, sibling_in, Keyless}
 use Rattle.change.specs.declared.node.NodeKey.{NodeKey}

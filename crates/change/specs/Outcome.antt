@@ -1,5 +1,5 @@
 -- What writing a change comes to.
-use Rattle.std.specs.Prelude.{◌≡◌, ℕ, ◌+◌, ◌^◌, ◌<◌, ◌≤◌, Bool, true, false, cond, List, ◌++◌, length, replicate, Some, None, Ok, Err, Option, Result, ◌==◌, nat_le, nat_lt}
+use Rattle.std.specs.Prelude.{◌≡◌, ℕ, ◌+◌, ◌^◌, ◌<◌, ◌≤◌, Bool, true, false, cond, List, ◌++◌, length, replicate, Some, None, Ok, Err, Option, Result, IfSome, ◌==◌, nat_le, nat_lt}
 use Rattle.records.specs.Format.{highest, longest_content}
 use Rattle.sealing.specs.declared.key.Key.{Key}
 use Rattle.tree.specs.declared.node.NodeId.{NodeId}
@@ -34,7 +34,7 @@ refusal levels place w given last =
 -- Not refused, and what follows for the code; or refused.
 abbrev pub Checked : (levels place : ℕ) → Option (List ℕ) → (given last : ℕ) → Result NodeId Refusal → Type 0
 Checked levels place w given last (Ok node) =
-    (refusal levels place w given last ≡ None) × (node.number ≡ 2 ^ levels + place) × (place < 2 ^ levels) × (draws w levels ≤ given) × (last + draws w levels ≤ highest)
+    (refusal levels place w given last ≡ None) × (node.number ≡ 2 ^ levels + place) × (place < 2 ^ levels) × (draws w levels ≤ given) × (last + draws w levels ≤ highest) × IfSome w (λ c. length c ≤ longest_content)
 Checked levels place w given last (Err f) = refusal levels place w given last ≡ Some f
 
 -- The nodes are the siblings along the path to a place in a tree.

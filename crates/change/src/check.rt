@@ -1,6 +1,8 @@
 // The refusals of a change, the lowest number first.
 ghost use Rattle.std.specs.Prelude.{◌≡◌, ℕ, ◌+◌, ◌^◌, ◌<◌, ◌≤◌, Some, None};
-ghost use Rattle.change.specs.Outcome.{Checked};
+ghost use Rattle.forgetting.specs.Change.{draws};
+ghost use Rattle.change.specs.Nodes.{content_in, first_of};
+ghost use Rattle.change.specs.Outcome.{Checked, is_content};
 
 use records::record::{HIGHEST, LONGEST_CONTENT};
 use tree::answer::Refusal;
@@ -10,7 +12,7 @@ use tree::numbers::place_node;
 // How many keys a change of a place draws: one for each node above it, and one for its own node where a content is put in.
 pub(crate) fn draws(levels: u32, content: Option<&[u8]>) -> u32
     requires { levels ≤ 20 }
-    ensures { result ≡ draws (content_of content.entry) levels }
+    ensures { result ≡ draws (content_in content.entry) levels }
 {
     match content {
         Some(_) => levels + 1,
@@ -18,9 +20,19 @@ pub(crate) fn draws(levels: u32, content: Option<&[u8]>) -> u32
     }
 }
 
+// The index of the key that the node above the place gets: a put draws one for the place's node first.
+pub(crate) fn first(content: Option<&[u8]>) -> usize
+    ensures { result ≡ first_of (content_in content.entry) }
+{
+    match content {
+        Some(_) => 1,
+        None => 0,
+    }
+}
+
 // Whether a place can hold that content; taking out asks for none.
 fn can_hold(content: Option<&[u8]>) -> bool
-    ensures { result ≡ is_content (content_of content.entry) }
+    ensures { result ≡ is_content (content_in content.entry) }
 {
     match content {
         Some(content) => !content.is_empty() && content.len() <= LONGEST_CONTENT as usize,
@@ -36,7 +48,7 @@ pub(crate) fn check(
     given: usize,
     last: u32,
 ) -> Result<NodeId, Refusal>
-    ensures { Checked levels place (content_of content.entry) given last result }
+    ensures { Checked levels place (content_in content.entry) given last result }
 {
     let node = place_node(levels, place).ok_or(Refusal::NoSuchPlace)?;
     if !can_hold(content) {

@@ -1,7 +1,8 @@
 // The keys of nodes.
-ghost use Rattle.std.specs.Prelude.{◌≡◌, None, replicate};
-ghost use Rattle.change.specs.Nodes.{Keyless};
+ghost use Rattle.std.specs.Prelude.{◌≡◌, Some, None, replicate};
+ghost use Rattle.change.specs.Nodes.{key_in, numbered, Keyless};
 
+use crate::keys::KeyRef;
 use sealing::key::Key;
 
 // The key of a node, with its number. It can be let go only where it is proved to be wiped.
@@ -15,6 +16,17 @@ impl Drop for NodeKey {
         requires { self.key.bytes ≡ replicate 32 0 }
     {
         let NodeKey { number: _, key: _ } = self;
+    }
+}
+
+impl NodeKey {
+    pub(crate) fn lent(&self) -> KeyRef<'_>
+        ensures { Some (numbered result) ≡ key_in (Some self.now) }
+    {
+        KeyRef {
+            number: self.number,
+            key: &self.key,
+        }
     }
 }
 

@@ -3,8 +3,9 @@ ghost use Rattle.std.specs.Prelude.{◌≡◌, ℕ, ◌+◌, ◌%◌, ◌<◌, �
 ghost use Rattle.cipher.specs.Sealed.{slot_nonce, text_of};
 ghost use Rattle.records.specs.Format.{encode as encoded, out as out_record};
 ghost use Rattle.change.specs.Coded.{coded_key, coded_content, key_bytes};
-ghost use Rattle.change.specs.Nodes.{key_in};
+ghost use Rattle.change.specs.Nodes.{key_in, numbered};
 
+use crate::keys::KeyRef;
 use crate::node::NodeKey;
 use cipher::nonce::slot_nonce;
 use cipher::sealing_trait::Sealing;
@@ -41,23 +42,28 @@ fn seal_key<S: Sealing>(
 pub(crate) fn push_key<S: Sealing>(
     cipher: &mut S,
     node: NodeId,
-    number: u32,
-    key: &Key,
-    under: u32,
-    above: &Key,
+    key: KeyRef<'_>,
+    above: KeyRef<'_>,
     part: &mut [u8; 48],
     out: &mut Vec<u8>,
 ) -> Result<(), AllocError>
-    ensures out { out.new.items ≡ (if is_ok result then out.old.items ++ encoded (coded_key S.sealed node.number (node.number % 2) (record { number = under; bytes = above.now.bytes }) (record { number = number; bytes = key.now.bytes })) else out.old.items) }
+    ensures out { out.new.items ≡ (if is_ok result then out.old.items ++ encoded (coded_key S.sealed node.number (node.number % 2) (numbered above.entry) (numbered key.entry)) else out.old.items) }
     ensures clear { S.clear cipher.new }
 {
-    let marked = header(KEY, node.number, number);
-    seal_key(cipher, above, node.side().slot(), &marked, key, part);
+    let marked = header(KEY, node.number, key.number);
+    seal_key(
+        cipher,
+        above.key,
+        node.side().slot(),
+        &marked,
+        key.key,
+        part,
+    );
     encode(
         &Record::Key {
             node: node.number,
-            number,
-            under,
+            number: key.number,
+            under: above.number,
             sealed: part,
         },
         out,
@@ -69,16 +75,15 @@ pub(crate) fn push_node<S: Sealing>(
     cipher: &mut S,
     id: NodeId,
     node: &Option<NodeKey>,
-    under: u32,
-    above: &Key,
+    above: KeyRef<'_>,
     part: &mut [u8; 48],
     out: &mut Vec<u8>,
 ) -> Result<(), AllocError>
-    ensures out { out.new.items ≡ (if is_ok result then out.old.items ++ key_bytes S.sealed id.number (id.number % 2) (record { number = under; bytes = above.now.bytes }) (key_in node.now) else out.old.items) }
+    ensures out { out.new.items ≡ (if is_ok result then out.old.items ++ key_bytes S.sealed id.number (id.number % 2) (numbered above.entry) (key_in node.now) else out.old.items) }
 {
     match node {
         None => Ok(()),
-        Some(held) => push_key(cipher, id, held.number, &held.key, under, above, part, out),
+        Some(held) => push_key(cipher, id, held.lent(), above, part, out),
     }
 }
 
@@ -95,23 +100,22 @@ fn place_content(content: &[u8], part: &mut [u8])
 pub(crate) fn push_content<S: Sealing>(
     cipher: &mut S,
     node: NodeId,
-    number: u32,
-    key: &Key,
+    key: KeyRef<'_>,
     content: &[u8],
     part: &mut [u8],
     out: &mut Vec<u8>,
 ) -> Result<(), AllocError>
     requires { (length part.old ≡ length content.now + 16) × (length content.now ≤ 4096) }
-    ensures out { out.new.items ≡ (if is_ok result then out.old.items ++ encoded (coded_content S.sealed node.number 0 (record { number = number; bytes = key.now.bytes }) content.now) else out.old.items) }
+    ensures out { out.new.items ≡ (if is_ok result then out.old.items ++ encoded (coded_content S.sealed node.number 0 (numbered key.entry) content.now) else out.old.items) }
     ensures clear { S.clear cipher.new }
 {
-    let marked = header(CONTENT, node.number, number);
+    let marked = header(CONTENT, node.number, key.number);
     place_content(content, part);
-    cipher.seal(key, &slot_nonce(0), &marked, part);
+    cipher.seal(key.key, &slot_nonce(0), &marked, part);
     encode(
         &Record::Content {
             node: node.number,
-            number,
+            number: key.number,
             sealed: part,
         },
         out,

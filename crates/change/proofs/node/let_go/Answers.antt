@@ -1,5 +1,5 @@
 -- What is let go was cleared where it stood.
-use Rattle.std.proofs.Common.{vec_items, subst, arith, List, Option}
+use Rattle.std.proofs.Common.{vec_items, subst, arith}
 use Rattle.change.specs.Nodes.{Keyless}
 use Rattle.change.proofs.Siblings.{keyless-last, keyless-front}
 use Rattle.change.proofs.node.let_go.Goals as goal
