@@ -11,7 +11,7 @@ mod limbs;
 mod state;
 
 use limbs::Limbs;
-use octets::u64_at;
+use octets::word_at;
 pub use state::Poly1305;
 
 const BLOCK: usize = 16;
@@ -58,7 +58,7 @@ impl Poly1305 {
         let mut acc = absorb_whole(self.acc, self.r, part);
         if part.len() % BLOCK != 0 {
             let block = last_block(part, 0);
-            acc = acc.absorb(self.r, u64_at(&block, 0), u64_at(&block, 8), MARK);
+            acc = acc.absorb(self.r, word_at(&block, 0), word_at(&block, 8), MARK);
         }
         self.acc = acc;
     }
@@ -72,7 +72,7 @@ impl Poly1305 {
         let mut acc = absorb_whole(self.acc, self.r, part);
         if part.len() % BLOCK != 0 {
             let block = last_block(part, 1);
-            acc = acc.absorb(self.r, u64_at(&block, 0), u64_at(&block, 8), 0);
+            acc = acc.absorb(self.r, word_at(&block, 0), word_at(&block, 8), 0);
         }
         self.acc = acc;
     }
@@ -108,7 +108,7 @@ fn first_half(key: &[u8; 32]) -> Limbs
     ensures carried { Carried result }
     ensures value { value result ≡ clamp (le (take 16 key.now)) }
 {
-    let (lo, hi) = clamped(u64_at(key, 0), u64_at(key, 8));
+    let (lo, hi) = clamped(word_at(key, 0), word_at(key, 8));
     Limbs::from_words(lo, hi, 0)
 }
 
@@ -116,7 +116,7 @@ fn first_half(key: &[u8; 32]) -> Limbs
 fn second_half(key: &[u8; 32]) -> (u64, u64)
     ensures { result.0 + 2 ^ 64 * result.1 ≡ le (take 16 (drop 16 key.now)) }
 {
-    (u64_at(key, 16), u64_at(key, 24))
+    (word_at(key, 16), word_at(key, 24))
 }
 
 // The tag of a message. The state is working memory: whatever it held, it is zeros afterwards.
@@ -137,7 +137,7 @@ fn absorb_whole(mut acc: Limbs, r: Limbs, part: &[u8]) -> Limbs
 {
     for i in 0..part.len() / BLOCK {
         let at = BLOCK * i;
-        acc = acc.absorb(r, u64_at(part, at), u64_at(part, at + 8), MARK);
+        acc = acc.absorb(r, word_at(part, at), word_at(part, at + 8), MARK);
     }
     acc
 }

@@ -16,8 +16,8 @@ returns c =
             | then-part-ne0 w ↦
                 ap (λ x. value x % prime) w.acc-is
                 ∙ last_padded (multiplier s) (accumulator s) (value c.absorb_whole-acc.result) (value w.absorb-acc.result) _
-                w.u64_at.result w.u64_at-then-part-ne0.result _ m w.last_block-block.result (omega arith)
-                (omega arith) w.last_block-block.ensures w.u64_at.ensures w.u64_at-then-part-ne0.ensures (omega arith)
+                w.word_at.result w.word_at-then-part-ne0.result _ m w.last_block-block.result (omega arith)
+                (omega arith) w.last_block-block.ensures w.word_at.ensures w.word_at-then-part-ne0.ensures (omega arith)
                 c.absorb_whole-acc.ensures.value w.absorb-acc.ensures.value
             | else-part-ne0 w ↦
                 ap (λ x. value x % prime) w.acc-is ∙ c.absorb_whole-acc.ensures.value
