@@ -7,7 +7,7 @@ ghost use Rattle.index.specs.Rows.{row_of, key_row, content_row, Empty};
 ghost use Rattle.index.specs.Noted.{rows_of, noted, scanned, Short};
 
 use records::decode::decode;
-use records::record::{CONTENT_FRONT, Decoded, KEY_FRONT, MARK, Record};
+use records::record::{CONTENT_FRONT, KEY_FRONT, MARK, Record};
 use row::{ContentRow, KeyRow};
 use std::alloc::{AllocError, Global};
 use tree::numbers::places;
@@ -107,7 +107,7 @@ impl Index {
     {
         let mut left = bytes;
         let mut from = at;
-        while let Decoded::One(record, rest) = decode(levels, left) {
+        while let Ok((record, rest)) = decode(levels, left) {
             self.note(levels, from, &record);
             from += (left.len() - rest.len()) as u64;
             left = rest;
