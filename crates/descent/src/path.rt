@@ -38,10 +38,10 @@ pub fn descend<S: Sealing, M: Medium>(
     };
     for g in 0..levels {
         let on_path = node.ancestor(levels - 1 - g);
-        let KeyRow::Sealed { number, offset, .. } = index.key(on_path.number) else {
-            return Err(Failure::Refused(Refusal::Nothing));
-        };
-        step_down(cipher, medium, on_path, number, offset, key, part)?;
+        let row = index
+            .key(on_path.number)
+            .ok_or(Failure::Refused(Refusal::Nothing))?;
+        step_down(cipher, medium, on_path, row.number, row.offset, key, part)?;
     }
     Ok(())
 }
@@ -51,7 +51,7 @@ fn open_row<S: Sealing, M: Medium>(
     cipher: &mut S,
     medium: &mut M,
     node: NodeId,
-    row: KeyRow,
+    row: Option<KeyRow>,
     above: &Key,
     part: &mut [u8; 48],
     held: &mut Node,
@@ -59,10 +59,10 @@ fn open_row<S: Sealing, M: Medium>(
     ensures { OpensRow S.sealed node.number row above.now.bytes (M.log medium.old) (M.log medium.new) result (key_in held.new) }
 {
     match row {
-        KeyRow::NoKey => clear(held),
-        KeyRow::Sealed { number, offset, .. } => {
-            open_key(cipher, medium, node, number, offset, above, part)?;
-            hold(held, number, part);
+        None => clear(held),
+        Some(row) => {
+            open_key(cipher, medium, node, row.number, row.offset, above, part)?;
+            hold(held, row.number, part);
         }
     }
     Ok(())
@@ -73,17 +73,15 @@ fn follow<S: Sealing, M: Medium>(
     cipher: &mut S,
     medium: &mut M,
     node: NodeId,
-    row: KeyRow,
+    row: Option<KeyRow>,
     key: &mut Key,
     part: &mut [u8; 48],
 ) -> Result<(), Failure>
     ensures { Follows S.sealed node.number row key.old.bytes (M.log medium.old) (M.log medium.new) result key.new.bytes }
 {
     match row {
-        KeyRow::NoKey => Ok(()),
-        KeyRow::Sealed { number, offset, .. } => {
-            step_down(cipher, medium, node, number, offset, key, part)
-        }
+        None => Ok(()),
+        Some(row) => step_down(cipher, medium, node, row.number, row.offset, key, part),
     }
 }
 

@@ -10,7 +10,6 @@ use ledger::answer::Verdict;
 use ledger::book::Ledger;
 use memory::medium::MemoryMedium;
 use records::decode::decode;
-use records::record::Decoded;
 use rehearsal::levels::Levels;
 use rehearsal::readable::Written;
 use std::alloc::{AllocError, Global};
@@ -56,7 +55,7 @@ pub struct Play {
 fn length_of(levels: u32, bytes: &[u8], count: u32) -> usize {
     let mut rest = bytes;
     for _ in 0..count {
-        let Decoded::One(_, after) = decode(levels, rest) else {
+        let Ok((_, after)) = decode(levels, rest) else {
             break;
         };
         rest = after;

@@ -1,9 +1,10 @@
 -- What the values of the code stand for.
-use Rattle.std.specs.Prelude.{ℕ, ◌+◌, ◌^◌, Bool, cond, ◌&&◌, List, nat_le, nat_lt}
+use Rattle.std.specs.Prelude.{ℕ, ◌+◌, ◌^◌, Bool, cond, ◌&&◌, List, Ok, Err, Result, nat_le, nat_lt}
+use Rattle.std.specs.Borrow.{Bor}
 use Rattle.records.specs.declared.«record».Record.{Record as Rec}
 use Rattle.records.specs.declared.«record».Record.TheVariants.{Key, Content, Out}
-use Rattle.records.specs.declared.«record».Decoded.{Decoded as Dec}
-use Rattle.records.specs.declared.«record».Decoded.TheVariants.{One, Ends, Other}
+use Rattle.records.specs.declared.«record».Undecoded.{Undecoded}
+use Rattle.records.specs.declared.«record».Undecoded.TheVariants.{Ends, Other}
 use Rattle.records.specs.Format.{Record, key, content, out, highest, longest_content}
 use Rattle.records.specs.Decode.{Decoded, one, ends, other, decoded, is_place, is_number}
 
@@ -12,10 +13,10 @@ record_of (Key node number under sealed) = key node number under sealed.now
 record_of (Content node number sealed) = content node number sealed.now
 record_of (Out node next) = out node next
 
-abbrev pub decoded_of : Dec → Decoded
-decoded_of (One r rest) = one (record_of r) rest.now
-decoded_of Ends = ends
-decoded_of Other = other
+abbrev pub decoded_of : Result (Rec × Bor (List ℕ)) Undecoded → Decoded
+decoded_of (Ok found) = one (record_of found.0) found.1.now
+decoded_of (Err Ends) = ends
+decoded_of (Err Other) = other
 
 -- Trees have at most 20 levels: for more, no bytes are a record.
 abbrev pub decoded_up_to20 : (levels : ℕ) → List ℕ → Decoded

@@ -5,7 +5,7 @@ ghost use Rattle.records.specs.Values.{decoded_of, decoded_up_to20, is_key, is_o
 
 use crate::record::{
     CONTENT, CONTENT_FRONT, Decoded, HEADER_BYTES, HIGHEST, KEY, KEY_BYTES, KEY_FRONT,
-    LONGEST_CONTENT, MARK, MOST_LEVELS, OUT, Record, SEALED_KEY,
+    LONGEST_CONTENT, MARK, MOST_LEVELS, OUT, Record, SEALED_KEY, Undecoded,
 };
 
 // The number of four bytes from `at` on.
@@ -89,14 +89,14 @@ fn out(levels: u32, bytes: &[u8]) -> Decoded<'_>
     ensures { decoded_of result ≡ out_at levels bytes.now }
 {
     if bytes.len() < HEADER_BYTES {
-        return Decoded::Ends;
+        return Err(Undecoded::Ends);
     }
     let node = four(bytes, 1);
     let next = four(bytes, 5);
     if is_out(levels, node, next) {
-        return Decoded::One(Record::Out { node, next }, rest(bytes, HEADER_BYTES));
+        return Ok((Record::Out { node, next }, rest(bytes, HEADER_BYTES)));
     }
-    Decoded::Other
+    Err(Undecoded::Other)
 }
 
 // The key of a node.
@@ -105,14 +105,14 @@ fn key(levels: u32, bytes: &[u8]) -> Decoded<'_>
     ensures { decoded_of result ≡ key_at levels bytes.now }
 {
     if bytes.len() < KEY_BYTES {
-        return Decoded::Ends;
+        return Err(Undecoded::Ends);
     }
     let node = four(bytes, 1);
     let number = four(bytes, 5);
     let under = four(bytes, 9);
     if is_key(levels, node, number, under) {
         let sealed = part(bytes, KEY_FRONT, SEALED_KEY);
-        return Decoded::One(
+        return Ok((
             Record::Key {
                 node,
                 number,
@@ -120,9 +120,9 @@ fn key(levels: u32, bytes: &[u8]) -> Decoded<'_>
                 sealed,
             },
             rest(bytes, KEY_BYTES),
-        );
+        ));
     }
-    Decoded::Other
+    Err(Undecoded::Other)
 }
 
 // The content of a place.
@@ -131,27 +131,27 @@ fn content(levels: u32, bytes: &[u8]) -> Decoded<'_>
     ensures { decoded_of result ≡ content_at levels bytes.now }
 {
     if bytes.len() < CONTENT_FRONT {
-        return Decoded::Ends;
+        return Err(Undecoded::Ends);
     }
     let node = four(bytes, 1);
     let number = four(bytes, 5);
     let count = two(bytes, 9);
     if !is_content(levels, node, number, count) {
-        return Decoded::Other;
+        return Err(Undecoded::Other);
     }
     if bytes.len() < CONTENT_FRONT + MARK + count as usize {
-        return Decoded::Ends;
+        return Err(Undecoded::Ends);
     }
     let sealed = part(bytes, CONTENT_FRONT, count as usize + MARK);
     let after = rest(bytes, CONTENT_FRONT + MARK + count as usize);
-    Decoded::One(
+    Ok((
         Record::Content {
             node,
             number,
             sealed,
         },
         after,
-    )
+    ))
 }
 
 // Whether the first byte is `tag`.
@@ -173,7 +173,7 @@ fn by_tag(levels: u32, bytes: &[u8]) -> Decoded<'_>
     } else if begins(bytes, OUT) {
         out(levels, bytes)
     } else {
-        Decoded::Other
+        Err(Undecoded::Other)
     }
 }
 
@@ -182,10 +182,10 @@ pub fn decode(levels: u32, bytes: &[u8]) -> Decoded<'_>
     ensures { decoded_of result ≡ decoded_up_to20 levels bytes.now }
 {
     if levels > MOST_LEVELS {
-        return Decoded::Other;
+        return Err(Undecoded::Other);
     }
     if bytes.len() == 0 {
-        return Decoded::Ends;
+        return Err(Undecoded::Ends);
     }
     by_tag(levels, bytes)
 }

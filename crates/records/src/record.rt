@@ -48,10 +48,14 @@ pub enum Record<'a> {
     },
 }
 
-// What stands at the front of a string of bytes: a record and the rest; one that ends too early; or another form.
-#[derive(Clone, Copy)]
-pub enum Decoded<'a> {
-    One(Record<'a>, &'a [u8]),
+// Why no record stands at the front of a string of bytes.
+#[derive(Clone, Copy, PartialEq, Eq, Debug)]
+pub enum Undecoded {
+    // One ends too early.
     Ends,
+    // They have another form.
     Other,
 }
+
+// What stands at the front of a string of bytes: a record and the rest.
+pub type Decoded<'a> = Result<(Record<'a>, &'a [u8]), Undecoded>;

@@ -1,5 +1,5 @@
 use crate::decode::decode;
-use crate::record::{Decoded, Record};
+use crate::record::{Decoded, Record, Undecoded};
 
 // The first byte of a string, and how many it has.
 fn shape(bytes: &[u8]) -> [usize; 2] {
@@ -12,9 +12,9 @@ fn shape(bytes: &[u8]) -> [usize; 2] {
 // The first byte of the record, its numbers, and the shapes of what is sealed and of the rest.
 fn told(d: Decoded<'_>) -> [usize; 8] {
     match d {
-        Decoded::Ends => [0; 8],
-        Decoded::Other => [1; 8],
-        Decoded::One(r, rest) => {
+        Err(Undecoded::Ends) => [0; 8],
+        Err(Undecoded::Other) => [1; 8],
+        Ok((r, rest)) => {
             let [x, y] = shape(rest);
             let (tag, node, number, under, [s, t]) = match r {
                 Record::Key {

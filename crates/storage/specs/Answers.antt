@@ -4,7 +4,6 @@ use Rattle.tree.specs.Answers.{number_of}
 use Rattle.tree.specs.declared.answer.Refusal.{Refusal}
 use Rattle.tree.specs.declared.answer.Refusal.TheVariants.{NoSuchPlace, Nothing}
 use Rattle.index.specs.declared.row.ContentRow.{ContentRow}
-use Rattle.index.specs.declared.row.ContentRow.TheVariants.{NoContent, Sealed}
 use Rattle.forgetting.specs.Tree.{Tree, place_in, content_of}
 use Rattle.forgetting.specs.Change.{Numbered}
 use Rattle.descent.specs.declared.failure.Failure.{Failure}
@@ -51,9 +50,9 @@ change_answer None = done
 change_answer (Some why) = refused (number_of why)
 
 -- Why reading is refused before anything is opened, by the place and its row in the index: no such place, nothing there, or a content longer than the buffer.
-abbrev pub row_refusal : (room : ℕ) → ContentRow → Option Refusal
-row_refusal room NoContent = Some Nothing
-row_refusal room (Sealed number long offset) = cond (nat_le long room) None (Some NoSuchPlace)
+abbrev pub row_refusal : (room : ℕ) → Option ContentRow → Option Refusal
+row_refusal room None = Some Nothing
+row_refusal room (Some row) = cond (nat_le row.length room) None (Some NoSuchPlace)
 
-abbrev pub read_refusal : (levels place room : ℕ) → ContentRow → Option Refusal
+abbrev pub read_refusal : (levels place room : ℕ) → Option ContentRow → Option Refusal
 read_refusal levels place room row = cond (nat_lt place (2 ^ levels)) (row_refusal room row) (Some NoSuchPlace)

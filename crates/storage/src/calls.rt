@@ -23,7 +23,6 @@ use descent::failure::Failure;
 use devices::chip::Chip;
 use devices::medium::Medium;
 use index::Index;
-use index::row::ContentRow;
 use records::record::LONGEST_CONTENT;
 use sealing::key::Key;
 use tree::answer::Refusal;
@@ -59,10 +58,10 @@ fn refuse_read(index: &Index, levels: u32, place: u32, room: usize) -> Option<Re
     if place >= places(levels) {
         return Some(Refusal::NoSuchPlace);
     }
-    let ContentRow::Sealed { length, .. } = index.content(place) else {
+    let Some(row) = index.content(place) else {
         return Some(Refusal::Nothing);
     };
-    if length as usize > room {
+    if row.length as usize > room {
         return Some(Refusal::NoSuchPlace);
     }
     None

@@ -17,7 +17,6 @@ use descent::part::open_content;
 use descent::path::descend;
 use devices::medium::Medium;
 use index::Index;
-use index::row::ContentRow;
 use sealing::key::Key;
 use tree::answer::Refusal;
 use tree::node::NodeId;
@@ -64,15 +63,10 @@ pub(crate) fn read_place<S: Sealing, M: Medium>(
     ensures fits { IfOk result (λ n. n ≤ 4096) }
     ensures reads { OfShown S.sealed levels (rows_of index.now) key.old.bytes (M.log medium.old) (M.log medium.new) (Reads levels place result room.new) }
 {
-    let ContentRow::Sealed {
-        number,
-        length,
-        offset,
-    } = index.content(place)
-    else {
-        return Err(Failure::Refused(Refusal::Nothing));
-    };
-    let count = length as usize;
+    let row = index
+        .content(place)
+        .ok_or(Failure::Refused(Refusal::Nothing))?;
+    let count = row.length as usize;
     if count > 4096 {
         return Err(Failure::Refused(Refusal::DoesNotOpen));
     }
@@ -80,7 +74,9 @@ pub(crate) fn read_place<S: Sealing, M: Medium>(
     let node = NodeId {
         number: places(levels) + place,
     };
-    open_room(cipher, medium, node, number, offset, count, key, room)?;
+    open_room(
+        cipher, medium, node, row.number, row.offset, count, key, room,
+    )?;
     Ok(count)
 }
 
