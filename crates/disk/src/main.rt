@@ -2,7 +2,7 @@
 #![tactic(auto)]
 
 use anyhow::anyhow;
-use devices::chip::{Chip, Replaced};
+use devices::chip::Chip;
 use devices::fault::Fault;
 use devices::medium::Medium;
 use files::chip::FileChip;
@@ -47,12 +47,12 @@ fn read_medium(rt: &HostRuntime) -> anyhow::Result<()> {
     Ok(())
 }
 
-fn replace(chip: FileChip, number: u32, medium: &FileMedium) -> Replaced<FileChip> {
+fn replace(chip: &mut FileChip, number: u32, medium: &FileMedium) -> Result<(), Fault> {
     let mut bytes = [0; 32];
     bytes[0] = 5;
     bytes[31] = 9;
     let mut key = Key::take(&mut bytes);
-    let replaced = chip.replaced(&key, number, medium);
+    let replaced = chip.replace(&key, number, medium);
     key.wipe();
     replaced
 }
@@ -70,12 +70,12 @@ fn show_chip(rt: &HostRuntime) -> anyhow::Result<()> {
 
 fn write_chip(rt: &HostRuntime) -> anyhow::Result<()> {
     let medium = FileMedium::open(rt, "medium")?;
-    let Ok(chip) = FileChip::open(rt, "chip") else {
+    let Ok(mut chip) = FileChip::open(rt, "chip") else {
         return Err(anyhow!("the chip is not fresh"));
     };
-    match replace(chip, 258, &medium) {
-        Replaced::Done(chip) => println!(rt; "replaced, number {}", chip.number())?,
-        Replaced::Failed(_) => println!(rt; "not replaced")?,
+    match replace(&mut chip, 258, &medium) {
+        Ok(()) => println!(rt; "replaced, number {}", chip.number())?,
+        Err(_) => println!(rt; "not replaced")?,
     }
     let file = fs::read(rt, "chip")?;
     println!(rt; "file {file:?}")?;

@@ -1,11 +1,11 @@
 // A chip on a file.
 ghost use Rattle.std.specs.Prelude.{◌≡◌, [], replicate, IfOk};
 ghost use Rattle.slot.specs.Held.{held};
-ghost use Rattle.trace.specs.Asked.{givens};
 
 use crate::image::Image;
 use crate::unopened::Unopened;
-use devices::chip::{Chip, Replaced};
+use devices::chip::Chip;
+use devices::fault::Fault;
 use devices::medium::Medium;
 use sealing::key::Key;
 use slot::Slot;
@@ -40,7 +40,7 @@ fn remove(rt: &HostRuntime, path: &str) -> Result<(), Unopened> {
 impl FileChip {
     // A chip of no file yet.
     fn fresh(rt: &HostRuntime, path: &str) -> Result<FileChip, AllocError>
-        ensures { IfOk result (λ c. (held c.slot ≡ record { number = 0; bytes = replicate 32 0 }) × (givens c.ledger.keys ≡ [])) }
+        ensures { IfOk result (λ c. (held c.slot ≡ record { number = 0; bytes = replicate 32 0 }) × (c.ledger.keys ≡ [])) }
     {
         let heap = rt.alloc();
         let mut beside = String::from_str(heap, path)?;
@@ -57,7 +57,7 @@ impl FileChip {
 
     // The chip of the file at a path; where there is none, a chip that was never given a key. What a replacing left beside it is removed.
     pub fn open(rt: &HostRuntime, path: &str) -> Result<FileChip, Unopened>
-        ensures { IfOk result (λ c. givens c.ledger.keys ≡ []) }
+        ensures { IfOk result (λ c. c.ledger.keys ≡ []) }
     {
         let mut chip = FileChip::fresh(rt, path)?;
         remove(rt, chip.beside.as_str())?;
@@ -69,7 +69,7 @@ impl FileChip {
 impl Chip for FileChip {
     ghost holds = { λ c. held c.slot };
 
-    ghost given = { λ c. givens c.ledger.keys };
+    ghost given = { λ c. c.ledger.keys };
 
     fn number(&self) -> u32 {
         self.slot.number()
@@ -79,20 +79,14 @@ impl Chip for FileChip {
         self.slot.key()
     }
 
-    fn replaced<M: Medium>(mut self, key: &Key, number: u32, medium: &M) -> Replaced<FileChip> {
+    fn replace<M: Medium>(&mut self, key: &Key, number: u32, medium: &M) -> Result<(), Fault> {
         let ledger = self.ledger.given(number, key, medium);
         self.ledger = ledger;
-        let written = self.image.save(
-            &self.rt,
-            self.path.as_str(),
-            self.beside.as_str(),
-            number,
-            key,
-        );
-        if written.is_err() {
-            return Replaced::Failed(self);
-        }
+        let path = self.path.as_str();
+        let beside = self.beside.as_str();
+        let written = self.image.save(&self.rt, path, beside, number, key);
+        written.map_err(|_| Fault)?;
         self.slot.set(key, number);
-        Replaced::Done(self)
+        Ok(())
     }
 }

@@ -1,6 +1,5 @@
 // A medium on a file.
 ghost use Rattle.std.specs.Prelude.{◌≡◌, true, false, [], IfOk};
-ghost use Rattle.trace.specs.Asked.{events};
 
 use crate::directory::sync_above;
 use devices::fault::Fault;
@@ -21,7 +20,7 @@ pub struct FileMedium {
 impl FileMedium {
     // The file at a path, which is made where there is none.
     pub fn open(rt: &HostRuntime, path: &str) -> io::Result<FileMedium>
-        ensures { IfOk result (λ m. (events m.trace.asked ≡ []) × (m.failed ≡ false)) }
+        ensures { IfOk result (λ m. (m.trace.asked ≡ []) × (m.failed ≡ false)) }
     {
         let file = OpenOptions::new()
             .read(true)
@@ -73,7 +72,7 @@ fn done<T: Drop>(answer: io::Result<T>) -> Result<(), Fault> {
 }
 
 impl Medium for FileMedium {
-    ghost log = { λ m. events m.trace.asked };
+    ghost log = { λ m. m.trace.asked };
 
     fn read_at(&mut self, offset: u64, buffer: &mut [u8]) -> Result<(), Fault> {
         if self.failed || read(&mut self.file, offset, buffer).is_err() {

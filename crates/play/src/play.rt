@@ -147,7 +147,7 @@ impl Play {
     fn try_change(&self, deed: &Deed) -> Result<(Vec<u8>, u32), Failure> {
         let mut store = self.store()?;
         let answer = change(self.heap, self.levels, &mut store, deed);
-        let (medium, root) = taken_apart(store)?;
+        let (medium, root) = taken_apart(store);
         answer?;
         let bytes = bytes_after(self.heap, &medium, self.end)?;
         Ok((bytes, root))
@@ -159,7 +159,7 @@ impl Play {
         medium.fail_after((self.deeds.len() as u64).saturating_mul(2), kept);
         let mut store = replay(self.heap, self.levels, medium, &self.deeds)?;
         let answer = change(self.heap, self.levels, &mut store, deed);
-        let (_, root) = taken_apart(store)?;
+        let (_, root) = taken_apart(store);
         match answer {
             Err(Failure::Stopped) => Ok(root),
             Err(why) => Err(why),
@@ -228,7 +228,7 @@ impl Play {
 
     // Somebody reads the chip: the number of its key.
     pub fn look(&mut self) -> Result<u32, Failure> {
-        let (_, root) = taken_apart(self.store()?)?;
+        let (_, root) = taken_apart(self.store()?);
         match self.ledger.look() {
             Ok(()) => Ok(root),
             Err(_) => Err(Failure::Memory),

@@ -15,7 +15,7 @@ ghost use Rattle.index.specs.Rows.{content_row};
 use crate::commit::finish;
 use crate::read::read_with;
 use crate::reading::Reading;
-use crate::seat::Seat;
+use crate::seat::Condition;
 use crate::state::Store;
 use crate::what::What;
 use cipher::sealing_trait::Sealing;
@@ -67,7 +67,7 @@ fn refuse_read(index: &Index, levels: u32, place: u32, room: usize) -> Option<Re
     None
 }
 
-impl<S: Sealing, M: Medium, C: Chip + Drop> Store<S, M, C> {
+impl<S: Sealing, M: Medium, C: Chip> Store<S, M, C> {
     // Reads a place into a buffer, from the chip's key down.
     pub fn read(&mut self, place: u32, buffer: &mut [u8]) -> Reading
         ensures same { changes (M.log self.new.medium) ≡ changes (M.log self.old.medium) }
@@ -76,7 +76,7 @@ impl<S: Sealing, M: Medium, C: Chip + Drop> Store<S, M, C> {
         ensures halted { chip_in C.holds self.old.seat ≡ None → reading_of result buffer.new ≡ stopped }
         ensures answer { OfStanding S.sealed self.old.levels (rows_of self.old.index) self.old.end (chip_in C.holds self.old.seat) (M.log self.old.medium) (M.log self.new.medium) (λ t. Answers (reading_of result buffer.new) (read_answer self.old.levels place (length buffer.old) t)) }
     {
-        let Seat::Ready(chip) = &self.seat else {
+        let Condition::Ready = self.seat.condition else {
             return Reading::Failed(Failure::Stopped);
         };
         if let Some(why) = refuse_read(&self.index, self.levels, place, buffer.len()) {
@@ -88,7 +88,7 @@ impl<S: Sealing, M: Medium, C: Chip + Drop> Store<S, M, C> {
             &self.index,
             self.levels,
             place,
-            chip.key(),
+            self.seat.chip.key(),
             &mut self.work,
             buffer,
         )
@@ -99,13 +99,13 @@ impl<S: Sealing, M: Medium, C: Chip + Drop> Store<S, M, C> {
         ensures levels { self.new.levels ≡ self.old.levels }
         ensures changes { Changes S.sealed self.old.levels place (content_in what.entry) (record { log = M.log self.old.medium; rows = rows_of self.old.index; end = self.old.end; chip = chip_in C.holds self.old.seat; given = given_in C.given self.old.seat; keys = keys.old }) result (record { log = M.log self.new.medium; rows = rows_of self.new.index; end = self.new.end; chip = chip_in C.holds self.new.seat; given = given_in C.given self.new.seat; keys = keys.new }) }
     {
-        let Seat::Ready(chip) = &self.seat else {
+        let Condition::Ready = self.seat.condition else {
             return Err(Failure::Stopped);
         };
         if refuses(self.levels, place, what) {
             return Err(Failure::Refused(Refusal::NoSuchPlace));
         }
-        let last = chip.number();
+        let last = self.seat.chip.number();
         self.records.clear();
         let number = self.work.prepare(
             &mut self.cipher,
@@ -116,7 +116,7 @@ impl<S: Sealing, M: Medium, C: Chip + Drop> Store<S, M, C> {
             what,
             keys,
             last,
-            chip.key(),
+            self.seat.chip.key(),
             &mut self.records,
         )?;
         finish(

@@ -7,7 +7,7 @@ ghost use Rattle.index.specs.Noted.{rows_of};
 ghost use Rattle.storage.specs.Seats.{chip_in};
 ghost use Rattle.storage.specs.Standing.{Standing, NotBegun};
 
-use crate::seat::Seat;
+use crate::seat::{Condition, Seat};
 use crate::state::Store;
 use crate::work::Work;
 use cipher::sealing_trait::Sealing;
@@ -48,7 +48,10 @@ impl<S: Sealing + Drop, M: Medium + Drop, C: Chip + Drop> Store<S, M, C> {
         Ok(Store {
             cipher,
             medium,
-            seat: Seat::Ready(chip),
+            seat: Seat {
+                chip,
+                condition: Condition::Ready,
+            },
             index,
             levels,
             end: 0,
