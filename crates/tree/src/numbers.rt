@@ -2,6 +2,7 @@
 ghost use Rattle.std.specs.Prelude.{◌≡◌, ℕ, ◌+◌, ◌-◌, ◌/◌, ◌%◌, ◌^◌, ◌<◌, ◌≤◌, true, false, MatchOption};
 ghost use Rattle.tree.specs.Nodes.{sibling_of, slot_of};
 
+use crate::leaf::Leaf;
 use crate::node::{NodeId, Side};
 
 // The most levels that a tree can have.
@@ -66,10 +67,5 @@ pub fn places(levels: u32) -> u32
 pub fn place_node(levels: u32, place: u32) -> Option<NodeId>
     ensures { MatchOption result ((levels ≤ 20 → place < 2 ^ levels → ⊥)) (λ n. (levels ≤ 20) × (place < 2 ^ levels) × (n.number ≡ 2 ^ levels + place)) }
 {
-    if levels > MOST_LEVELS || place >= places(levels) {
-        return None;
-    }
-    Some(NodeId {
-        number: places(levels) + place,
-    })
+    Some(Leaf::new(levels, place)?.node())
 }
