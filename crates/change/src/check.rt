@@ -31,7 +31,7 @@ pub(crate) fn first(content: Option<&[u8]>) -> usize
 }
 
 // Whether a place can hold that content; taking out asks for none.
-fn can_hold(content: Option<&[u8]>) -> bool
+pub fn can_hold(content: Option<&[u8]>) -> bool
     ensures { result ≡ is_content (content_in content.entry) }
 {
     match content {

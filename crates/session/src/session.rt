@@ -6,7 +6,6 @@ use descent::failure::Failure;
 use files::chip::FileChip;
 use files::medium::FileMedium;
 use std::alloc::{AllocError, Global};
-use storage::reading::Reading;
 use storage::seat::Seat;
 use storage::state::Store;
 use words::numbers::counter;
@@ -55,12 +54,8 @@ fn words_of(heap: Global, text: &str) -> Result<String, AllocError> {
 impl Session {
     // Over an empty medium and a chip that was never given a key.
     pub fn new(heap: Global, medium: FileMedium, chip: FileChip) -> Result<Session, Failure> {
-        let Ok(cipher) = Standard::new(heap) else {
-            return Err(Failure::Memory);
-        };
-        let Ok(buffer) = vec![in heap; 0; BUFFER] else {
-            return Err(Failure::Memory);
-        };
+        let cipher = Standard::new(heap)?;
+        let buffer = vec![in heap; 0; BUFFER]?;
         let store = Store::new(heap, cipher, medium, chip, LEVELS)?;
         let Ok(chance) = Chance::new(heap) else {
             let (_medium, _seat) = store.into_devices();
@@ -129,7 +124,7 @@ impl Session {
             return words_of(self.heap, "malformed: a place is a number");
         };
         match self.store.read(place, &mut self.buffer) {
-            Reading::Content(n) => {
+            Ok(n) => {
                 let Some(content) = self.buffer.get(0..n) else {
                     return words_of(self.heap, "failed: the buffer is too short");
                 };
@@ -137,7 +132,7 @@ impl Session {
                 octets::wipe(&mut self.buffer);
                 text
             }
-            Reading::Failed(why) => failed(self.heap, why),
+            Err(why) => failed(self.heap, why),
         }
     }
 

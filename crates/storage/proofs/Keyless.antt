@@ -1,16 +1,16 @@
 -- Nodes without keys.
-use Rattle.std.proofs.Common.{◌≡◌, ℕ, zero, suc, false, List, [], ◌∷◌, ◌++◌, is_some, None, refl, ap, ◌∙◌}
+use Rattle.std.proofs.Common.{◌≡◌, ℕ, zero, suc, false, List, [], ◌∷◌, ◌++◌, is_some, None, Option, refl, ap, ◌∙◌}
 use Rattle.change.specs.Nodes.{key_in, sibling_in}
-use Rattle.change.specs.declared.node.Node.{Node}
-use Rattle.storage.specs.Memory as Memory
+use Rattle.change.specs.declared.node.NodeKey.{NodeKey}
+use Rattle.change.specs.Nodes as Nodes
 
-pub none : (nodes : List Node) → nodes ≡ [] → Memory.Keyless nodes
+pub none : (nodes : List (Option NodeKey)) → nodes ≡ [] → Nodes.Keyless nodes
 none nodes e h = ap (λ ns. is_some (sibling_in ns h)) e
 
-pub one_more : (nodes more : List Node) (node : Node) → more ≡ nodes ++ (node ∷ []) → key_in node ≡ None → Memory.Keyless nodes → Memory.Keyless more
+pub one_more : (nodes more : List (Option NodeKey)) (node : Option NodeKey) → more ≡ nodes ++ (node ∷ []) → key_in node ≡ None → Nodes.Keyless nodes → Nodes.Keyless more
 one_more nodes more node e n k h = ap (λ ns. is_some (sibling_in ns h)) e ∙ go nodes h k
   where
-    go : (ns : List Node) (h : ℕ) → Memory.Keyless ns → is_some (sibling_in (ns ++ (node ∷ [])) h) ≡ false
+    go : (ns : List (Option NodeKey)) (h : ℕ) → Nodes.Keyless ns → is_some (sibling_in (ns ++ (node ∷ [])) h) ≡ false
     go [] zero k = ap is_some n
     go [] (suc h) k = refl
     go (m ∷ ns) zero k = k zero

@@ -8,8 +8,6 @@ use Rattle.forgetting.specs.Tree.{Tree, place_in, content_of}
 use Rattle.forgetting.specs.Change.{Numbered}
 use Rattle.descent.specs.declared.failure.Failure.{Failure}
 use Rattle.descent.specs.declared.failure.Failure.TheVariants.{Refused, Memory, Device, Stopped}
-use Rattle.storage.specs.declared.reading.Reading.{Reading}
-use Rattle.storage.specs.declared.reading.Reading.TheVariants.{Content, Failed}
 
 -- content: these bytes. done: the change was made. refused: by that number, and nothing has changed. memory: there was none, and nothing has changed. device: one failed while something was read, and nothing has changed. stopped: a device failed in the middle of a change, and the store has not come up since.
 pub data Answer : Type 0 where
@@ -27,9 +25,9 @@ failure_of Device = device
 failure_of Stopped = stopped
 
 -- Of a reading into a buffer.
-abbrev pub reading_of : Reading → (buffer : List ℕ) → Answer
-reading_of (Content n) buffer = content (take n buffer)
-reading_of (Failed why) buffer = failure_of why
+abbrev pub reading_of : Result ℕ Failure → (buffer : List ℕ) → Answer
+reading_of (Ok n) buffer = content (take n buffer)
+reading_of (Err why) buffer = failure_of why
 
 -- Of a put or a taking out.
 abbrev pub change_of : {X : Type 0} → Result X Failure → Answer

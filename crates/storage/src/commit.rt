@@ -1,17 +1,17 @@
 // Making a change last.
 ghost use Rattle.std.specs.Prelude.{◌≡◌, ℕ, ◌<◌, ◌≤◌, List, ◌∷◌, length, Some, None, Ok, Err};
 ghost use Rattle.change.specs.Nodes.{bytes_in};
-ghost use Rattle.index.specs.Noted.{rows_of};
 ghost use Rattle.devices.specs.Events.{appended, synced};
 ghost use Rattle.devices.specs.Given.{given_now};
 ghost use Rattle.storage.specs.Seats.{chip_in, given_in, Writes, Turns, Commits, Finishes};
+ghost use Rattle.storage.specs.States.{state_of};
 
 use crate::seat::{Condition, Seat};
+use crate::state::Store;
 use change::keys::wipe_keys;
 use descent::failure::Failure;
 use devices::chip::Chip;
 use devices::medium::Medium;
-use index::Index;
 use sealing::key::Key;
 
 // Records at the end of the medium, and synced.
@@ -61,29 +61,28 @@ pub(crate) fn commit<M: Medium, C: Chip>(
 // The most bytes that a medium can have.
 const MOST: u64 = 1 << 62;
 
-// Makes a change last that is written in `records`, with key `i` for the chip, wipes all keys, and notes what was written.
-pub(crate) fn finish<M: Medium, C: Chip>(
-    medium: &mut M,
-    seat: &mut Seat<C>,
-    index: &mut Index,
-    end: &mut u64,
-    levels: u32,
-    records: &[u8],
-    keys: &mut [Key],
-    i: usize,
-    number: u32,
-) -> Result<(), Failure>
-    requires { (i < length keys.old) × (levels ≤ 19) }
-    ensures { Finishes levels records.now (record { number = number; bytes = bytes_in keys.old i }) (record { log = M.log medium.old; rows = rows_of index.old; end = end.old; chip = chip_in C.holds seat.old; given = given_in C.given seat.old; keys = keys.old }) result (record { log = M.log medium.new; rows = rows_of index.new; end = end.new; chip = chip_in C.holds seat.new; given = given_in C.given seat.new; keys = keys.new }) }
-{
-    let count = records.len() as u64;
-    if count >= MOST || *end >= MOST {
-        return Err(Failure::Device);
+impl<S, M: Medium, C: Chip> Store<S, M, C> {
+    // Makes a change last whose records are written, with key `i` for the chip, wipes all keys, and notes what was written.
+    pub(crate) fn finish(&mut self, keys: &mut [Key], i: usize, number: u32) -> Result<(), Failure>
+        requires { i < length keys.old }
+        ensures levels { self.new.levels ≡ self.old.levels }
+        ensures finishes { Finishes self.old.levels self.old.records.items (record { number = number; bytes = bytes_in keys.old i }) (state_of M.log C.holds C.given self.old keys.old) result (state_of M.log C.holds C.given self.new keys.new) }
+    {
+        let count = self.records.len() as u64;
+        if count >= MOST || self.end >= MOST {
+            return Err(Failure::Device);
+        }
+        let done = commit(
+            &mut self.source.medium,
+            &mut self.seat,
+            &self.records,
+            &keys[i],
+            number,
+        );
+        wipe_keys(keys);
+        done?;
+        self.index.note_all(self.levels, self.end, &self.records);
+        self.end += count;
+        Ok(())
     }
-    let done = commit(medium, seat, records, &keys[i], number);
-    wipe_keys(keys);
-    done?;
-    index.note_all(levels, *end, records);
-    *end += count;
-    Ok(())
 }

@@ -1,4 +1,4 @@
-use Rattle.std.proofs.Common.{vec_items, arith}
+use Rattle.std.proofs.Common.{None, vec_items, refl, arith}
 use Rattle.storage.proofs.Keyless.{none, one_more}
 use Rattle.storage.proofs.wipe.blank_nodes.Goals as goal
 
@@ -7,4 +7,4 @@ loop-h-init c = let begun = c.in_ok-nodes.ensures in (begun.len, begun.capacity,
 
 pub loop-h-preserved : goal.loop-h-preserved
 loop-h-preserved c =
-    (omega arith, omega arith, one_more (vec_items c.loop-h.nodes) (vec_items c.push_reserved.new.self) c.blank_node.result c.push_reserved.ensures.items c.blank_node.ensures c.loop-h.invariant.2)
+    (omega arith, omega arith, one_more (vec_items c.loop-h.nodes) (vec_items c.push_reserved.new.self) None c.push_reserved.ensures.items refl c.loop-h.invariant.2)
