@@ -76,7 +76,7 @@ impl Poly1305 {
     {
         let mut acc = absorb_whole(self.acc, self.r, part);
         if part.len() % BLOCK != 0 {
-            acc = absorb_block(acc, self.r, &last_block(part, end), top);
+            acc = acc.absorb(self.r, &last_block(part, end), top);
         }
         self.acc = acc;
     }
@@ -132,21 +132,13 @@ pub fn mac(key: &[u8; 32], message: &[u8], state: &mut Poly1305) -> [u8; 16]
     state.finish()
 }
 
-// A block, with `top` in the highest limb.
-fn absorb_block(acc: Limbs, r: Limbs, block: &[u8; 16], top: u64) -> Limbs
-    requires { top ≤ 2 ^ 24 }
-    ensures { value result % prime ≡ ((value acc + (le block.now + 2 ^ 104 * top)) * value r) % prime }
-{
-    acc.absorb(r, word_at(block, 0), word_at(block, 8), top)
-}
-
 // The whole blocks of a part.
 fn absorb_whole(mut acc: Limbs, r: Limbs, part: &[u8]) -> Limbs
     ensures { value result % prime ≡ absorb_all (value r) (value acc % prime) (length part.now / 16) part.now }
 {
     let (whole, _) = part.as_chunks::<BLOCK>();
     for block in whole {
-        acc = absorb_block(acc, r, block, MARK);
+        acc = acc.absorb(r, block, MARK);
     }
     acc
 }

@@ -1,7 +1,10 @@
 // Arithmetic modulo 2^130 - 5, on numbers of five limbs.
 ghost use Rattle.std.specs.Prelude.{◌≡◌, ◌+◌, ◌*◌, ◌%◌, ◌^◌, ◌<◌, ◌≤◌};
+ghost use Rattle.octets.specs.Endian.{le};
 ghost use Rattle.poly1305.specs.Poly1305.{prime};
 ghost use Rattle.poly1305.specs.Bounds.{Carried, Summed};
+
+use octets::word_at;
 
 const LIMB_BITS: u32 = 26;
 
@@ -20,7 +23,7 @@ pub struct Limbs {
 
 // The sum of two such numbers, before the next carry.
 #[derive(Clone, Copy)]
-pub struct Sum {
+struct Sum {
     l0: u64,
     l1: u64,
     l2: u64,
@@ -91,12 +94,13 @@ impl Limbs {
         }
     }
 
-    // A block is added, as two words and the limb `top`, and the sum multiplied by r.
-    pub(crate) fn absorb(self, r: Limbs, lo: u64, hi: u64, top: u64) -> Limbs
+    // A block is added, with `top` in the highest limb, and the sum multiplied by r.
+    pub(crate) fn absorb(self, r: Limbs, block: &[u8; 16], top: u64) -> Limbs
         requires { top ≤ 2 ^ 24 }
-        ensures { value result % prime ≡ ((value self + (lo + 2 ^ 64 * hi + 2 ^ 104 * top)) * value r) % prime }
+        ensures { value result % prime ≡ ((value self + (le block.now + 2 ^ 104 * top)) * value r) % prime }
     {
-        self.plus(Limbs::from_words(lo, hi, top)).times(r)
+        let added = Limbs::from_words(word_at(block, 0), word_at(block, 8), top);
+        self.plus(added).times(r)
     }
 
     // The lowest 128 bits of the number modulo the prime.

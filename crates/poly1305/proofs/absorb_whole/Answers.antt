@@ -12,5 +12,5 @@ pub loop-block-preserved : goal.loop-block-preserved
 loop-block-preserved c =
     let m = c.args.part.now in
     let i = c.loop-block.block-index in
-    one_more (value c.args.r) _ (value c.loop-block.acc) (value c.absorb_block-acc.result) i (length m / 16) m _ (omega arith) (omega arith)
-    (ap (λ (l : List (List ℕ)). get_or l i []) c.as_chunks.ensures.front) c.loop-block.invariant c.absorb_block-acc.ensures
+    one_more (value c.args.r) _ (value c.loop-block.acc) (value c.absorb-acc.result) i (length m / 16) m _ (omega arith) (omega arith)
+    (ap (λ (l : List (List ℕ)). get_or l i []) c.as_chunks.ensures.front) c.loop-block.invariant c.absorb-acc.ensures

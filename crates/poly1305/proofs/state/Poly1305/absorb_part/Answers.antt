@@ -14,8 +14,8 @@ returns-clause-accumulator c =
     elim c.if-part-ne0.branch [
       | then-part-ne0 w ↦
           ap (λ x. value x % prime) w.acc-is
-          ∙ part_more (multiplier s) (accumulator s) (value c.absorb_whole-acc.result) (value w.absorb_block-acc.result) c.args.end c.args.top m w.last_block.result
-          (omega arith) whole w.last_block.ensures w.absorb_block-acc.ensures
+          ∙ part_more (multiplier s) (accumulator s) (value c.absorb_whole-acc.result) (value w.absorb-acc.result) c.args.end c.args.top m w.last_block.result
+          (omega arith) whole w.last_block.ensures w.absorb-acc.ensures
       | else-part-ne0 w ↦
           ap (λ x. value x % prime) w.acc-is
           ∙ part_whole (multiplier s) (accumulator s) (value c.absorb_whole-acc.result) c.args.end c.args.top m w.if-part-ne0.false whole
