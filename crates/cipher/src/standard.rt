@@ -48,10 +48,7 @@ impl Sealing for Standard {
 
     fn seal(&mut self, key: &Key, nonce: &Nonce, marked: &[u8], part: &mut [u8]) {
         let at = part.len() - 16;
-        let sealed = aead::seal(key, nonce, marked, &mut part[0..at], &mut self.work);
-        let Ok(mark) = sealed else {
-            return unreachable();
-        };
+        let mark = aead::seal(key, nonce, marked, &mut part[0..at], &mut self.work).unwrap();
         part[at..].copy_from_slice(&mark.0);
     }
 
