@@ -156,5 +156,5 @@ module _ (levels : ℕ) (bs : List ℕ) (few : levels ≤ 19) where
 
   pub decoded_none : (d : Result (Rec × Bor (List ℕ)) Undecoded) → ((found : Rec × Bor (List ℕ)) → d ≡ Ok found → ⊥) → decoded_of d ≡ decoded_up_to20 levels bs → (r : Record) (rest : List ℕ) → decoded levels bs ≡ one r rest → ⊥
   decoded_none (Ok found) n e r rest f = n found refl
-  decoded_none (Err Ends) n e r rest f = let u = up_to_20 levels bs few in let z : ◌≡◌ {A = ℕ} 0 1 = cc in omega arith
-  decoded_none (Err Other) n e r rest f = let u = up_to_20 levels bs few in let z : ◌≡◌ {A = ℕ} 0 1 = cc in omega arith
+  decoded_none (Err Ends) n e r rest f = let u = up_to_20 levels bs few in cc
+  decoded_none (Err Other) n e r rest f = let u = up_to_20 levels bs few in cc

@@ -14,7 +14,7 @@ use tree::numbers::places;
 
 pub mod row;
 
-// A row for each node, by its number, and one for each place.
+// A row for each node, by its number, and one for each place. The levels of the tree stay with who has the index: as a field they would be a second copy, to be kept the same.
 #[derive(Drop)]
 pub struct Index {
     keys: Vec<Option<KeyRow>>,

@@ -1,5 +1,5 @@
 -- What the values of the code stand for.
-use Rattle.std.specs.Prelude.{ℕ, ◌+◌, ◌^◌, Bool, cond, ◌&&◌, List, Ok, Err, Result, nat_le, nat_lt}
+use Rattle.std.specs.Prelude.{◌≡◌, ℕ, ◌+◌, ◌^◌, Bool, cond, ◌&&◌, List, ◌++◌, is_ok, if◌then◌else◌, Ok, Err, Result, nat_le, nat_lt}
 use Rattle.std.specs.Borrow.{Bor}
 use Rattle.records.specs.declared.«record».Record.{Record as Rec}
 use Rattle.records.specs.declared.«record».Record.TheVariants.{Key, Content, Out}
@@ -21,6 +21,10 @@ decoded_of (Err Other) = other
 -- Trees have at most 20 levels: for more, no bytes are a record.
 abbrev pub decoded_up_to20 : (levels : ℕ) → List ℕ → Decoded
 decoded_up_to20 levels bs = cond (nat_le levels 20) (decoded levels bs) other
+
+-- Bytes at the end of a list, if there was room for them; else the list as it was.
+abbrev pub Appends : {X E : Type 0} → Result X E → (bytes was now : List ℕ) → Type 0
+Appends result bytes was now = now ≡ (if is_ok result then was ++ bytes else was)
 
 -- Whether the numbers of a record are proper.
 abbrev pub is_key : (levels node number under : ℕ) → Bool

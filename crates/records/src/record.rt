@@ -23,13 +23,11 @@ pub const KEY_BYTES: usize = 61;
 
 pub const LONGEST_CONTENT: u16 = 4096;
 
-// The highest number that a key can have, and the most levels that a tree can have.
+// The highest number that a key can have.
 pub const HIGHEST: u32 = 4_294_967_294;
 
-pub const MOST_LEVELS: u32 = 20;
-
 // A record, with the bytes of the medium that it was read from.
-#[derive(Clone, Copy)]
+#[derive(Clone, Copy, PartialEq, Eq, Debug)]
 pub enum Record<'a> {
     Key {
         node: u32,

@@ -33,7 +33,7 @@ module _ (sealed : Cipher) (d : ℕ) (b : List ℕ) (p next : ℕ) (K : ℕ → 
 
   pub first_key_here : (w : Option (List ℕ)) → path_key w K 0 ≡ None → at < length rows.keys → key_row (after sealed d b (first_record next p w K ∷ []) rows).keys at ≡ None
   first_key_here None e l = out-key_here sealed d b (path_node p 0) next rows l
-  first_key_here (Some c) e l = absurd (let z : ◌≡◌ {A = ℕ} 0 1 = cc in omega arith)
+  first_key_here (Some c) e l = cc
 
   pub first_other : (w : Option (List ℕ)) (q : ℕ) → q ≢ at - 2 ^ d → content_row (after sealed d b (first_record next p w K ∷ []) rows).contents q ≡ content_row rows.contents q
   first_other None q ne = out-other sealed d b (path_node p 0) next rows q ne

@@ -21,23 +21,23 @@ pub row_no_key : (sealed : Cipher) (bytes : List ℕ) (at : ℕ) (row : Option K
 row_no_key sealed bytes at None above None s e = refl
 row_no_key sealed bytes at None above (Some k) s e = absurd s
 row_no_key sealed bytes at (Some row) above None s e = refl
-row_no_key sealed bytes at (Some row) above (Some k) s e = absurd (let z : ◌≡◌ {A = ℕ} 0 1 = cc in omega arith)
+row_no_key sealed bytes at (Some row) above (Some k) s e = cc
 
 pub no_key_row : (sealed : Cipher) (bytes : List ℕ) (at : ℕ) (row : Option KeyRow) (above key : Option Numbered) → KeyShown sealed bytes at row above key → key ≡ None → row ≡ None
 no_key_row sealed bytes at None above key s e = refl
 no_key_row sealed bytes at (Some row) above None s e = absurd s
-no_key_row sealed bytes at (Some row) above (Some k) s e = absurd (let z : ◌≡◌ {A = ℕ} 0 1 = cc in omega arith)
+no_key_row sealed bytes at (Some row) above (Some k) s e = cc
 
 pub row_no_content : (sealed : Cipher) (bytes : List ℕ) (at : ℕ) (row : Option ContentRow) (t : Tree Numbered (List ℕ)) → ContentShown sealed bytes at row t → row ≡ None → content_of t ≡ None
 row_no_content sealed bytes at row bare s e = refl
 row_no_content sealed bytes at None (leaf k c) s e = absurd s
-row_no_content sealed bytes at (Some row) (leaf k c) s e = absurd (let z : ◌≡◌ {A = ℕ} 0 1 = cc in omega arith)
+row_no_content sealed bytes at (Some row) (leaf k c) s e = cc
 row_no_content sealed bytes at row (node k l r) s e = refl
 
 pub no_content_row : (sealed : Cipher) (bytes : List ℕ) (at : ℕ) (row : Option ContentRow) (t : Tree Numbered (List ℕ)) → ContentShown sealed bytes at row t → content_of t ≡ None → row ≡ None
 no_content_row sealed bytes at None t s e = refl
 no_content_row sealed bytes at (Some row) bare s e = absurd s
-no_content_row sealed bytes at (Some row) (leaf k c) s e = absurd (let z : ◌≡◌ {A = ℕ} 0 1 = cc in omega arith)
+no_content_row sealed bytes at (Some row) (leaf k c) s e = cc
 no_content_row sealed bytes at (Some row) (node k l r) s e = absurd s
 
 pub reads_shown : ReadsShown
