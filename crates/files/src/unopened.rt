@@ -1,6 +1,6 @@
 // Why a chip's file can't be used.
 use std::alloc::AllocError;
-use std::fmt;
+use std::{fmt, io};
 
 #[derive(Clone, Copy, PartialEq, Eq, Debug)]
 pub enum Unopened {
@@ -13,6 +13,12 @@ pub enum Unopened {
 impl From<AllocError> for Unopened {
     fn from(_error: AllocError) -> Unopened {
         Unopened::Memory
+    }
+}
+
+impl From<io::Error> for Unopened {
+    fn from(_error: io::Error) -> Unopened {
+        Unopened::Unreadable
     }
 }
 
