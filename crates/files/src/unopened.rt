@@ -1,5 +1,6 @@
 // Why a chip's file can't be used.
 use std::alloc::AllocError;
+use std::error::Error;
 use std::{fmt, io};
 
 #[derive(Clone, Copy, PartialEq, Eq, Debug)]
@@ -32,3 +33,5 @@ impl fmt::Display for Unopened {
         })
     }
 }
+
+impl Error for Unopened {}
