@@ -198,13 +198,9 @@ impl Play {
     // A change that was cut off leaves the store as it was.
     fn note_cut(&mut self, deed: &Deed, records: u32) -> Result<(), Failure> {
         if deed.content.is_some() {
-            self.ledger
-                .put_cut(deed.place, records)
-                .map_err(unnoted)?;
+            self.ledger.put_cut(deed.place, records).map_err(unnoted)?;
         } else {
-            self.ledger
-                .out_cut(deed.place, records)
-                .map_err(unnoted)?;
+            self.ledger.out_cut(deed.place, records).map_err(unnoted)?;
         }
         Ok(())
     }

@@ -18,10 +18,7 @@ fn read_byte(input: &mut impl Read) -> io::Result<Option<u8>> {
 }
 
 // The next line in place of what stands in a buffer, without its line feed; none at the end of the input. It is read a byte at a time, so that no buffer but this one has what stands in it.
-fn read_line<'a>(
-    input: &mut impl Read,
-    line: &'a mut Vec<u8>,
-) -> io::Result<Option<&'a mut [u8]>> {
+fn read_line<'a>(input: &mut impl Read, line: &'a mut Vec<u8>) -> io::Result<Option<&'a mut [u8]>> {
     line.clear();
     for _ in 0..u64::MAX {
         match read_byte(input)? {
@@ -36,7 +33,9 @@ fn read_line<'a>(
 // A medium that has bytes was written by an earlier session.
 fn open_medium(rt: &HostRuntime, path: &str) -> anyhow::Result<FileMedium> {
     let medium = FileMedium::open(rt, path)?;
-    let length = medium.len().map_err(|_| anyhow!("the medium can't be read"))?;
+    let length = medium
+        .len()
+        .map_err(|_| anyhow!("the medium can't be read"))?;
     if length > 0 {
         return Err(anyhow!(
             "the medium is not empty: a store that was there before can't be opened yet"
