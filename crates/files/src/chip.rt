@@ -2,6 +2,7 @@
 ghost use Rattle.std.specs.Prelude.{◌≡◌, [], replicate, IfOk};
 ghost use Rattle.slot.specs.Held.{held};
 
+use crate::directory::if_found;
 use crate::image::Image;
 use crate::unopened::Unopened;
 use devices::chip::Chip;
@@ -11,7 +12,6 @@ use sealing::key::Key;
 use slot::Slot;
 use std::alloc::AllocError;
 use std::fs;
-use std::io::ErrorKind;
 use trace::ledger::Ledger;
 
 #[derive(Drop)]
@@ -22,19 +22,6 @@ pub struct FileChip {
     image: Image,
     slot: Slot,
     ledger: Ledger,
-}
-
-fn remove(rt: &HostRuntime, path: &str) -> Result<(), Unopened> {
-    match fs::remove_file(rt, path) {
-        Ok(()) => Ok(()),
-        Err(why) => {
-            if why.kind() == ErrorKind::NotFound {
-                Ok(())
-            } else {
-                Err(Unopened::Unreadable)
-            }
-        }
-    }
 }
 
 impl FileChip {
@@ -60,7 +47,7 @@ impl FileChip {
         ensures { IfOk result (λ c. c.ledger.keys ≡ []) }
     {
         let mut chip = FileChip::fresh(rt, path)?;
-        remove(rt, chip.beside.as_str())?;
+        if_found(fs::remove_file(rt, chip.beside.as_str()))?;
         chip.image.load(rt, path, &mut chip.slot)?;
         Ok(chip)
     }
@@ -84,8 +71,7 @@ impl Chip for FileChip {
         self.ledger = ledger;
         let path = self.path.as_str();
         let beside = self.beside.as_str();
-        let written = self.image.save(&self.rt, path, beside, number, key);
-        written.map_err(|_| Fault)?;
+        self.image.save(&self.rt, path, beside, number, key)?;
         self.slot.set(key, number);
         Ok(())
     }

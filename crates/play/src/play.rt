@@ -13,7 +13,6 @@ use records::decode::decode;
 use rehearsal::levels::Levels;
 use rehearsal::readable::Written;
 use std::alloc::{AllocError, Global};
-use storage::reading::Reading;
 use tree::answer::Refusal;
 
 // The most bytes of a content.
@@ -65,22 +64,15 @@ fn length_of(levels: u32, bytes: &[u8], count: u32) -> usize {
 
 // What follows the first so many bytes of a medium.
 fn bytes_after(heap: Global, medium: &MemoryMedium, end: usize) -> Result<Vec<u8>, Failure> {
-    let bytes = medium.bytes();
-    if end > bytes.len() {
-        return Err(Failure::Device);
-    }
-    match bytes[end..].to_vec(heap) {
-        Ok(rest) => Ok(rest),
-        Err(_) => Err(Failure::Memory),
-    }
+    let rest = medium.bytes().get(end..).ok_or(Failure::Device)?;
+    Ok(rest.to_vec(heap)?)
 }
 
-// What the ledger answers, where there are all the places that the store has.
-fn noted<T: Drop>(answer: Result<T, ledger::answer::Failure>) -> Result<(), Failure> {
-    match answer {
-        Ok(_) => Ok(()),
-        Err(ledger::answer::Failure::NoSuchPlace) => Err(Failure::Refused(Refusal::NoSuchPlace)),
-        Err(ledger::answer::Failure::Memory) => Err(Failure::Memory),
+// Why the ledger notes nothing.
+fn unnoted(why: ledger::answer::Failure) -> Failure {
+    match why {
+        ledger::answer::Failure::NoSuchPlace => Failure::Refused(Refusal::NoSuchPlace),
+        ledger::answer::Failure::Memory => Failure::Memory,
     }
 }
 
@@ -169,12 +161,12 @@ impl Play {
 
     // A put or a taking out, with the power cut if that was said.
     fn change(&mut self, deed: Deed) -> Result<Outcome, Failure> {
-        let Some(drawn) = self.drawn.checked_add(deed.draws(self.levels.count())) else {
-            return Err(Failure::Refused(Refusal::NumbersSpent));
-        };
+        let drawn = self
+            .drawn
+            .checked_add(deed.draws(self.levels.count()))
+            .ok_or(Failure::Refused(Refusal::NumbersSpent))?;
         let (bytes, root) = self.try_change(&deed)?;
-        let stop = self.stop;
-        self.stop = None;
+        let stop = self.stop.take();
         self.drawn = drawn;
         if let Some(Stop::Records(count)) = stop {
             let kept = length_of(self.levels.count(), &bytes, count);
@@ -193,22 +185,22 @@ impl Play {
 
     // A change that was made is one of the play's.
     fn note(&mut self, deed: Deed) -> Result<(), Failure> {
-        match &deed.content {
-            Some(_) => noted(self.ledger.put(deed.place))?,
-            None => noted(self.ledger.out(deed.place))?,
+        if deed.content.is_some() {
+            self.ledger.put(deed.place).map_err(unnoted)?;
+        } else {
+            self.ledger.out(deed.place).map_err(unnoted)?;
         }
-        match self.deeds.push(deed) {
-            Ok(()) => Ok(()),
-            Err(_) => Err(Failure::Memory),
-        }
+        self.deeds.push(deed).map_err(|_| Failure::Memory)
     }
 
     // A change that was cut off leaves the store as it was.
     fn note_cut(&mut self, deed: &Deed, records: u32) -> Result<(), Failure> {
-        match &deed.content {
-            Some(_) => noted(self.ledger.put_cut(deed.place, records)),
-            None => noted(self.ledger.out_cut(deed.place, records)),
+        if deed.content.is_some() {
+            self.ledger.put_cut(deed.place, records).map_err(unnoted)?;
+        } else {
+            self.ledger.out_cut(deed.place, records).map_err(unnoted)?;
         }
+        Ok(())
     }
 
     // What a place holds.
@@ -217,22 +209,15 @@ impl Play {
         let mut buffer = [0; ROOM];
         let reading = store.read(place, &mut buffer);
         let _ = store.into_devices();
-        match reading {
-            Reading::Content(count) => match buffer[0..count].to_vec(self.heap) {
-                Ok(content) => Ok(content),
-                Err(_) => Err(Failure::Memory),
-            },
-            Reading::Failed(why) => Err(why),
-        }
+        let content = &buffer[0..reading?];
+        Ok(content.to_vec(self.heap)?)
     }
 
     // Somebody reads the chip: the number of its key.
     pub fn look(&mut self) -> Result<u32, Failure> {
         let (_, root) = taken_apart(self.store()?);
-        match self.ledger.look() {
-            Ok(()) => Ok(root),
-            Err(_) => Err(Failure::Memory),
-        }
+        self.ledger.look()?;
+        Ok(root)
     }
 
     // Whether what a put put in can be opened with the chip's keys at all looks, and all that was ever written.
