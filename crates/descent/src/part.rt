@@ -11,7 +11,6 @@ use devices::medium::Medium;
 use records::encode::header;
 use records::record::{CONTENT, KEY};
 use sealing::key::Key;
-use sealing::opening::Opening;
 use tree::answer::Refusal;
 use tree::node::NodeId;
 
@@ -31,10 +30,9 @@ pub fn open_at<S: Sealing, M: Medium>(
     let Ok(()) = medium.read_at(offset, part) else {
         return Err(Failure::Device);
     };
-    let Opening::Opened = cipher.open(key, &slot_nonce(slot), marked, part) else {
-        return Err(Failure::Refused(Refusal::DoesNotOpen));
-    };
-    Ok(())
+    cipher
+        .open(key, &slot_nonce(slot), marked, part)
+        .map_err(|_| Failure::Refused(Refusal::DoesNotOpen))
 }
 
 // Opens the key of a node, sealed under the key of the node above: it stands in the first 32 bytes of the part.

@@ -12,7 +12,7 @@ use poly1305::{Poly1305, mac};
 use seal_commands::Command;
 use sealing::aead;
 use sealing::key::Key;
-use sealing::opening::{Mark, Nonce, Opening};
+use sealing::opening::{Mark, Nonce};
 use sealing::workspace::Workspace;
 use std::alloc::Global;
 
@@ -75,10 +75,9 @@ impl Work {
         let length = content.len();
         let mark = Mark(*mark);
         sealed.truncate(length);
-        let Opening::Opened = aead::open(key, nonce, marked, &mut sealed, &mark, &mut self.sealing)
-        else {
-            return Err(Refusal::DoesNotOpen.into());
-        };
+        aead::open(key, nonce, marked, &mut sealed, &mark, &mut self.sealing).map_err(
+            |_| Refusal::DoesNotOpen,
+        )?;
         Ok(sealed)
     }
 

@@ -6,7 +6,7 @@ ghost use Rattle.sealing.specs.Open.{Comes};
 ghost use Rattle.sealing.specs.Work.{Idle};
 
 use crate::key::Key;
-use crate::opening::{Mark, Nonce, Opening};
+use crate::opening::{DoesNotOpen, Mark, Nonce};
 use crate::workspace::Workspace;
 use chacha20::stream::TooLong;
 
@@ -72,16 +72,13 @@ pub fn open(
     sealed: &mut [u8],
     mark: &Mark,
     work: &mut Workspace,
-) -> Opening
+) -> Result<(), DoesNotOpen>
     ensures value { Comes key.now.bytes nonce.now.0 marked.now sealed.old mark.now.0 result sealed.new }
     ensures wiped { Idle work.new }
 {
     let made = work.tag(key.as_bytes(), &nonce.0, marked, sealed);
     if !agree(&made, &mark.0) {
-        return Opening::Shut;
+        return Err(DoesNotOpen);
     }
-    let Ok(()) = work.apply(key, nonce, sealed) else {
-        return Opening::Shut;
-    };
-    Opening::Opened
+    work.apply(key, nonce, sealed).map_err(|_| DoesNotOpen)
 }
