@@ -1,10 +1,12 @@
 // Why a line has no bytes for an answer.
 ghost use Rattle.std.specs.Prelude.{◌≡◌};
 ghost use Rattle.fields.specs.declared.faults.Failure.TheVariants as fails;
+ghost use Rattle.fields.specs.declared.faults.Malformed.TheVariants.{FieldCount};
 ghost use Rattle.fields.specs.declared.faults.Refusal.TheVariants as refusals;
 
 use crate::field::Field;
 use chacha20::stream::TooLong;
+use sealing::opening::DoesNotOpen;
 use std::alloc::AllocError;
 use std::fmt;
 use tree::answer::Refusal as Unchanged;
@@ -86,6 +88,13 @@ pub enum Failure {
     Memory,
 }
 
+// A command has so many fields, and the line another number.
+pub fn miscounted(expected: usize) -> Failure
+    ensures { result ≡ fails.Malformed (FieldCount expected) }
+{
+    Malformed::FieldCount { expected }.into()
+}
+
 impl From<Malformed> for Failure {
     ghost from_gives = { λ m r. r ≡ fails.Malformed m };
 
@@ -115,6 +124,14 @@ impl From<TooLong> for Failure {
 
     fn from(_too_long: TooLong) -> Failure {
         Failure::Refused(Refusal::TooLong)
+    }
+}
+
+impl From<DoesNotOpen> for Failure {
+    ghost from_gives = { λ _ r. r ≡ fails.Refused refusals.DoesNotOpen };
+
+    fn from(_does_not_open: DoesNotOpen) -> Failure {
+        Failure::Refused(Refusal::DoesNotOpen)
     }
 }
 
