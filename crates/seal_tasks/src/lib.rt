@@ -6,13 +6,13 @@ ghost use Rattle.seal_tasks.specs.Runs.{Answered};
 ghost use Rattle.seal_tasks.specs.Tasks.{Sealed, Opened, Blocked, Streamed, Given, Marked};
 ghost use Rattle.seal_tasks.specs.Clear.{Clear};
 
-use chacha20::stream::{Stream, TooLong};
-use fields::faults::{Failure, Refusal};
+use chacha20::stream::Stream;
+use fields::faults::Failure;
 use poly1305::{Poly1305, mac};
-use seal_commands::Command;
+use seal_commands::{Command, Text};
 use sealing::aead;
 use sealing::key::Key;
-use sealing::opening::{Mark, Nonce};
+use sealing::opening::{DoesNotOpen, Mark, Nonce};
 use sealing::workspace::Workspace;
 use std::alloc::Global;
 
@@ -51,9 +51,7 @@ impl Work {
         ensures value { Sealed vec_items key.now.bytes nonce.now.0 marked.now content.items result }
         ensures wiped { Clear self.old → Clear self.new }
     {
-        let Ok(mark) = aead::seal(key, nonce, marked, &mut content, &mut self.sealing) else {
-            return Err(Failure::Refused(Refusal::TooLong));
-        };
+        let mark = aead::seal(key, nonce, marked, &mut content, &mut self.sealing)?;
         content.extend_from_slice(&mark.0)?;
         Ok(content)
     }
@@ -69,15 +67,11 @@ impl Work {
         ensures value { Opened vec_items key.now.bytes nonce.now.0 marked.now sealed.items result }
         ensures wiped { Clear self.old → Clear self.new }
     {
-        let Some((content, mark)) = sealed.split_last_chunk::<16>() else {
-            return Err(Refusal::DoesNotOpen.into());
-        };
+        let (content, mark) = sealed.split_last_chunk::<16>().ok_or(DoesNotOpen)?;
         let length = content.len();
         let mark = Mark(*mark);
         sealed.truncate(length);
-        aead::open(key, nonce, marked, &mut sealed, &mark, &mut self.sealing).map_err(
-            |_| Refusal::DoesNotOpen,
-        )?;
+        aead::open(key, nonce, marked, &mut sealed, &mark, &mut self.sealing)?;
         Ok(sealed)
     }
 
@@ -109,13 +103,9 @@ impl Work {
         ensures value { Streamed vec_items key.now.bytes counter nonce.now.0 content.items result }
         ensures wiped { Clear self.old → Clear self.new }
     {
-        let done = self
-            .stream
-            .encrypt(key.as_bytes(), counter, &nonce.0, &mut content);
-        match done {
-            Ok(()) => Ok(content),
-            Err(TooLong) => Err(Failure::Refused(Refusal::TooLong)),
-        }
+        self.stream
+            .encrypt(key.as_bytes(), counter, &nonce.0, &mut content)?;
+        Ok(content)
     }
 
     // The one-time key of a key and a nonce: the first half of block 0.
@@ -153,18 +143,22 @@ impl Work {
         ensures wiped { Clear self.old → Clear self.new }
     {
         match command {
-            Command::Seal {
-                key,
-                nonce,
-                marked,
-                content,
-            } => after_wiping(self.seal(&key, &nonce, &marked, content), key),
-            Command::Open {
-                key,
-                nonce,
-                marked,
-                sealed,
-            } => after_wiping(self.open(&key, &nonce, &marked, sealed), key),
+            Command::Seal(
+                Text {
+                    key,
+                    nonce,
+                    marked,
+                    text,
+                },
+            ) => after_wiping(self.seal(&key, &nonce, &marked, text), key),
+            Command::Open(
+                Text {
+                    key,
+                    nonce,
+                    marked,
+                    text,
+                },
+            ) => after_wiping(self.open(&key, &nonce, &marked, text), key),
             Command::Block {
                 key,
                 counter,
