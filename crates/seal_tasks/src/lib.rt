@@ -27,12 +27,11 @@ pub struct Work {
     sealing: Workspace,
     stream: Stream,
     mark: Poly1305,
+    ghost clear: { Clear sealing stream mark },
 }
 
 impl Work {
-    pub fn new() -> Work
-        ensures { Clear result }
-    {
+    pub fn new() -> Work {
         Work {
             sealing: Workspace::new(),
             stream: Stream::new(),
@@ -48,8 +47,7 @@ impl Work {
         marked: &[u8],
         mut content: Vec<u8>,
     ) -> Result<Vec<u8>, Failure>
-        ensures value { Sealed vec_items key.now.bytes nonce.now.0 marked.now content.items result }
-        ensures wiped { Clear self.old → Clear self.new }
+        ensures { Sealed vec_items key.now.bytes nonce.now.0 marked.now content.items result }
     {
         let mark = aead::seal(key, nonce, marked, &mut content, &mut self.sealing)?;
         content.extend_from_slice(&mark.0)?;
@@ -64,8 +62,7 @@ impl Work {
         marked: &[u8],
         mut sealed: Vec<u8>,
     ) -> Result<Vec<u8>, Failure>
-        ensures value { Opened vec_items key.now.bytes nonce.now.0 marked.now sealed.items result }
-        ensures wiped { Clear self.old → Clear self.new }
+        ensures { Opened vec_items key.now.bytes nonce.now.0 marked.now sealed.items result }
     {
         let (content, mark) = sealed.split_last_chunk::<16>().ok_or(DoesNotOpen)?;
         let length = content.len();
@@ -83,8 +80,7 @@ impl Work {
         counter: u32,
         nonce: &Nonce,
     ) -> Result<Vec<u8>, Failure>
-        ensures value { Blocked vec_items key.now.bytes counter nonce.now.0 result }
-        ensures wiped { Clear self.old → Clear self.new }
+        ensures { Blocked vec_items key.now.bytes counter nonce.now.0 result }
     {
         let mut block = [0; BLOCK];
         self.stream
@@ -100,8 +96,7 @@ impl Work {
         nonce: &Nonce,
         mut content: Vec<u8>,
     ) -> Result<Vec<u8>, Failure>
-        ensures value { Streamed vec_items key.now.bytes counter nonce.now.0 content.items result }
-        ensures wiped { Clear self.old → Clear self.new }
+        ensures { Streamed vec_items key.now.bytes counter nonce.now.0 content.items result }
     {
         self.stream
             .encrypt(key.as_bytes(), counter, &nonce.0, &mut content)?;
@@ -110,8 +105,7 @@ impl Work {
 
     // The one-time key of a key and a nonce: the first half of block 0.
     fn once(&mut self, heap: Global, key: &Key, nonce: &Nonce) -> Result<Vec<u8>, Failure>
-        ensures value { Given vec_items key.now.bytes nonce.now.0 result }
-        ensures wiped { Clear self.old → Clear self.new }
+        ensures { Given vec_items key.now.bytes nonce.now.0 result }
     {
         let mut once = self.block(heap, key, 0, nonce)?;
         once.truncate(ONCE);
@@ -120,8 +114,7 @@ impl Work {
 
     // The mark of a message.
     fn mark(&mut self, heap: Global, once: &Key, message: &[u8]) -> Result<Vec<u8>, Failure>
-        ensures value { Marked vec_items once.now.bytes message.now result }
-        ensures wiped { Clear self.old → Clear self.new }
+        ensures { Marked vec_items once.now.bytes message.now result }
     {
         let tag = mac(once.as_bytes(), message, &mut self.mark);
         Ok(Vec::from_slice(heap, &tag)?)
@@ -139,8 +132,7 @@ fn after_wiping(answer: Result<Vec<u8>, Failure>, mut key: Key) -> Result<Vec<u8
 impl Work {
     // Carries the command out. The key is wiped, however it goes.
     pub fn run(&mut self, heap: Global, command: Command) -> Result<Vec<u8>, Failure>
-        ensures value { Answered vec_items command result }
-        ensures wiped { Clear self.old → Clear self.new }
+        ensures { Answered vec_items command result }
     {
         match command {
             Command::Seal(
