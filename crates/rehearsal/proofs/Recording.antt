@@ -27,7 +27,7 @@ no_sibling start numbers nodes e = ap (map key_in) e
 pub one_sibling : (start h : ℕ) (numbers : List (Option ℕ)) (nodes : List (Option NodeKey)) (node : Option NodeKey) → map key_in nodes ≡ siblings_of start numbers h → key_in node ≡ keyed (get_or numbers (sibling_of (start / 2 ^ h)) None)
     → map key_in (nodes ++ node ∷ []) ≡ siblings_of start numbers (h + 1)
 unfolding siblings_of
-one_sibling start h numbers nodes node e d = rw (map-append, add-one, e, d)
+one_sibling start h numbers nodes one e d = rw (map-append, add-one, e, d)
 
 pub recorded : (levels place last : ℕ) (w : Option (List ℕ)) (keys : List Key) (nodes : List (Option NodeKey)) (numbers : List (Option ℕ)) (before after : List ℕ)
     → map (λ (k : Key). k.bytes) keys ≡ keys_after last (draws w levels) → map key_in nodes ≡ siblings_of (2 ^ levels + place) numbers levels → before ≡ []

@@ -35,7 +35,8 @@ fn leaf(levels: u32, place: u32) -> Result<NodeId, Failure>
     requires { levels ≤ 3 }
     ensures { IfOk result (λ node. (node.number ≡ 2 ^ levels + place) × (node.number < 16)) }
 {
-    Ok(place_node(levels, place).ok_or(Refusal::NoSuchPlace)?)
+    let node = place_node(levels, place).ok_or(Refusal::NoSuchPlace)?;
+    Ok(node)
 }
 
 impl Rehearsal {
