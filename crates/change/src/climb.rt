@@ -61,8 +61,8 @@ pub(crate) fn climb<S: Sealing>(
     ensures { Extends result out.old.items (turns_bytes S.sealed start.number first drawn.entry.last drawn.entry.keys.now siblings.now levels) out.new.items }
 {
     let mut node = start;
-    for h in 0..levels {
-        push_both(cipher, node, h + first, drawn, &siblings[h], part, out)?;
+    for (h, sibling) in siblings[0..levels].iter().enumerate() {
+        push_both(cipher, node, h + first, drawn, sibling, part, out)?;
         node = node.parent();
     }
     Ok(())
