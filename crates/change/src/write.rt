@@ -10,16 +10,18 @@ use crate::node::NodeKey;
 use cipher::nonce::slot_nonce;
 use cipher::sealing_trait::Sealing;
 use records::encode::{encode, header};
-use records::record::{CONTENT, KEY, OUT, Record};
+use records::record::{CONTENT, KEY, Record};
 use sealing::key::Key;
 use std::alloc::AllocError;
 use tree::node::NodeId;
 
-// A key before the room for its mark.
-fn place_key(key: &[u8; 32], part: &mut [u8; 48])
-    ensures { text_of part.new ≡ key.now }
+// A text before the room for its mark.
+fn place_text(text: &[u8], part: &mut [u8])
+    requires { length part.old ≡ length text.now + 16 }
+    ensures { text_of part.new ≡ text.now }
 {
-    part[0..32].copy_from_slice(key);
+    let len = text.len();
+    part[0..len].copy_from_slice(text);
 }
 
 // A key sealed under another, in a part of 48 bytes.
@@ -34,7 +36,7 @@ fn seal_key<S: Sealing>(
     ensures value { part.new ≡ S.sealed above.now.bytes (slot_nonce slot) marked.now key.now.bytes }
     ensures clear { S.clear cipher.new }
 {
-    place_key(key.as_bytes(), part);
+    place_text(key.as_bytes(), part);
     cipher.seal(above, &slot_nonce(slot), marked, part);
 }
 
@@ -87,15 +89,6 @@ pub(crate) fn push_node<S: Sealing>(
     }
 }
 
-// A content before the room for its mark.
-fn place_content(content: &[u8], part: &mut [u8])
-    requires { length part.old ≡ length content.now + 16 }
-    ensures { text_of part.new ≡ content.now }
-{
-    let len = content.len();
-    part[0..len].copy_from_slice(content);
-}
-
 // The record of a place's content; or `out` as it was. The part has room for the content and its mark.
 pub(crate) fn push_content<S: Sealing>(
     cipher: &mut S,
@@ -110,7 +103,7 @@ pub(crate) fn push_content<S: Sealing>(
     ensures clear { S.clear cipher.new }
 {
     let marked = header(CONTENT, node.number, key.number);
-    place_content(content, part);
+    place_text(content, part);
     cipher.seal(key.key, &slot_nonce(0), &marked, part);
     encode(
         &Record::Content {
@@ -126,6 +119,11 @@ pub(crate) fn push_content<S: Sealing>(
 pub(crate) fn push_out(node: NodeId, next: u32, out: &mut Vec<u8>) -> Result<(), AllocError>
     ensures { out.new.items ≡ (if is_ok result then out.old.items ++ encoded (out_record node.number next) else out.old.items) }
 {
-    let bytes = header(OUT, node.number, next);
-    out.extend_from_slice(&bytes)
+    encode(
+        &Record::Out {
+            node: node.number,
+            next,
+        },
+        out,
+    )
 }
