@@ -70,7 +70,7 @@ fn write<S: Sealing>(
     )
 }
 
-// Changes a place: puts a content in, whatever it held; or takes out what it holds, or nothing. The records of the change at the end of `out`, and the number of the root's new key. `siblings` has the siblings along the path, from the place up; `part` and `room` are working memory, which holds nothing that isn't sealed afterwards. A taking out needs no room.
+// Changes a place: puts a content in, whatever it held; or takes out what it holds, or nothing. The records of the change at the end of `out`, and the number of the root's new key. `siblings` has the siblings along the path, from the place up; `part` and `room` are working memory, which holds nothing that isn't sealed afterwards. A taking out needs no room, so the two are lent apart.
 pub fn change<S: Sealing>(
     cipher: &mut S,
     levels: u32,

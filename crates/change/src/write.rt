@@ -1,4 +1,4 @@
-// Sealing keys and contents, and writing their records.
+// Sealing keys and contents, and writing their records. The cipher, the part and the buffer are lent one by one: a struct of the three would hold them by `&mut`, and each function would have to ensure too that they stay the same references.
 ghost use Rattle.std.specs.Prelude.{◌≡◌, ℕ, ◌+◌, ◌%◌, ◌<◌, ◌≤◌, List, [], ◌∷◌, ◌++◌, length, replicate, is_ok, if◌then◌else◌};
 ghost use Rattle.cipher.specs.Sealed.{slot_nonce, text_of};
 ghost use Rattle.records.specs.Format.{encode as encoded, out as out_record};

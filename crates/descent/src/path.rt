@@ -32,6 +32,7 @@ impl<S: Sealing, M: Medium> Source<S, M> {
         ensures down { OfShown S.sealed leaf.levels (rows_of index.now) key.old.bytes (M.log self.old.medium) (M.log self.new.medium) (Descends leaf.levels leaf.place result key.new.bytes) }
     {
         let node = leaf.node();
+        // Counted up: g is how many levels the node that was reached has above it, and what is known of it is said by g.
         for g in 0..leaf.levels {
             let on_path = node.ancestor(leaf.levels - 1 - g);
             let row = index.key(on_path.number).ok_or(Refusal::Nothing)?;
@@ -92,6 +93,7 @@ impl<S: Sealing, M: Medium> Source<S, M> {
         ensures all { OfShown S.sealed leaf.levels (rows_of index.now) key.old.bytes (M.log self.old.medium) (M.log self.new.medium) (Collects leaf.levels leaf.place result siblings.new) }
     {
         let node = leaf.node();
+        // Counted up, as above.
         for g in 0..leaf.levels - 1 {
             let h = leaf.levels - 1 - g;
             let on_path = node.ancestor(h);

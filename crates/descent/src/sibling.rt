@@ -11,7 +11,11 @@ pub fn hold(node: &mut Option<NodeKey>, number: u32, buffer: &[u8])
     ensures { key_in node.new ≡ Some (record { number = number; bytes = take 32 buffer.now }) }
 {
     clear(node);
-    let mut key = Key::blank();
-    key.load(buffer);
-    *node = Some(NodeKey { number, key });
+    *node = Some(NodeKey {
+        number,
+        key: Key::blank(),
+    });
+    if let Some(held) = node {
+        held.key.load(buffer);
+    }
 }

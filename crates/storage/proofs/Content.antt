@@ -1,7 +1,6 @@
 -- The content of a place: what was read and opened is what the medium shows.
-use Rattle.std.proofs.Common.{◌≡◌, ℕ, zero, suc, ◌+◌, ◌-◌, ◌^◌, ◌<◌, ◌≤◌, Bool, true, false, List, ◌∷◌, ◌++◌, length, take, drop, Some, Err, Option, Result, sym, refl, ap, ◌∙◌, subst, inl, inr, arith, length-take-le}
-use lib.Seq.{take-append-le, take-append_seam, drop-append_seam}
-use Rattle.cipher.specs.Sealed.{slot_nonce, text_of}
+use Rattle.std.proofs.Common.{◌≡◌, ℕ, zero, suc, ◌+◌, ◌^◌, ◌<◌, ◌≤◌, Bool, true, false, List, ◌∷◌, length, take, drop, Some, Err, Option, sym, refl, ap, ◌∙◌, subst, inl, inr, arith}
+use Rattle.cipher.specs.Sealed.{slot_nonce}
 use Rattle.records.specs.Format.{head}
 use Rattle.forgetting.specs.Tree.{Tree, bare, leaf, node, key_of, even_of, odd_of, Holds, to_even, turn, place_in, content_of}
 use Rattle.forgetting.specs.Change.{Numbered}
@@ -95,23 +94,3 @@ module _ (sealed : Cipher) (levels place : ℕ) (row : ContentRow) (rows : Rows)
     content-ends X Device text o = (ap changes o ∙ same, λ first last t f s. tt)
     content-ends X Memory text o = absurd o
     content-ends X Stopped text o = absurd o
-
--- What was opened in a part of the room stands at its front.
-pub at_the_front : (X : Type 0) (seals : List ℕ → List ℕ) (offset count : ℕ) (before after : List Event) (r : Result X Failure) (part rest room : List ℕ) → length part ≡ length (take (count + 16 - 0) room) → count + 16 ≤ length room
-    → Opens seals offset (length (take (count + 16 - 0) room)) before after r (text_of part) → Opens seals offset (count + 16) before after r (take count (part ++ rest))
-at_the_front X seals offset count before after r part rest room lp lr o =
-    let n : length (take (count + 16 - 0) room) ≡ count + 16 = length-take-le (count + 16 - 0) room (omega arith) ∙ omega arith in
-    let m : length part - 16 ≡ count = omega arith in
-    let t : text_of part ≡ take count (part ++ rest) = ap (λ x. take x part) m ∙ sym (take-append-le count part rest (omega arith)) in
-    let P : ℕ → List ℕ → Type 0 = λ x y. Opens seals offset x before after r y in
-    subst (λ y. P (count + 16) y) t (subst (λ x. P x (text_of part)) n o)
-
--- What was copied to the front of a buffer stands there, and the rest is as it was.
-pub copied : (n : ℕ) (copy room buffer : List ℕ) → n ≤ length room → copy ≡ take (n - 0) room → (take n (copy ++ drop (n - 0) buffer) ≡ take n room) × (drop n (copy ++ drop (n - 0) buffer) ≡ drop n buffer)
-copied n copy room buffer lr e =
-    let m : n - 0 ≡ n = omega arith in
-    let is : copy ≡ take n room = e ∙ ap (λ x. take x room) m in
-    let l : length copy ≡ n = ap length is ∙ length-take-le n room lr in (
-      ap (λ x. take x (copy ++ drop (n - 0) buffer)) (sym l) ∙ take-append_seam copy (drop (n - 0) buffer) ∙ is,
-      ap (λ x. drop x (copy ++ drop (n - 0) buffer)) (sym l) ∙ drop-append_seam copy (drop (n - 0) buffer) ∙ ap (λ x. drop x buffer) m,
-    )
