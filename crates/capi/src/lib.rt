@@ -5,7 +5,7 @@ ghost use Rattle.capi.specs.Calls.{Sealed, Opened};
 
 use sealing::aead::{open, seal};
 use sealing::key::Key;
-use sealing::opening::{Mark, Nonce, Opening};
+use sealing::opening::{Mark, Nonce};
 use sealing::workspace::Workspace;
 use std::alloc::Global;
 
@@ -53,7 +53,7 @@ pub extern "C" fn basilwrench_open(
     };
     let mut bytes = *key;
     let mut secret = Key::take(&mut bytes);
-    let opening = open(
+    let opened = open(
         &secret,
         &Nonce(*nonce),
         marked,
@@ -62,8 +62,5 @@ pub extern "C" fn basilwrench_open(
         &mut work,
     );
     secret.wipe();
-    match opening {
-        Opening::Opened => true,
-        Opening::Shut => false,
-    }
+    opened.is_ok()
 }

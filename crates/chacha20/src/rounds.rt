@@ -22,18 +22,14 @@ fn quarter_round(s: &mut [u32; 16], a: usize, b: usize, c: usize, d: usize)
     line_at(s, c, d, b, 7);
 }
 
-fn column_round(s: &mut [u32; 16])
-    ensures { s.new ≡ column_round s.old }
+// A round down the columns and one along the diagonals.
+fn double_round(s: &mut [u32; 16])
+    ensures { s.new ≡ diagonal_round (column_round s.old) }
 {
     quarter_round(s, 0, 4, 8, 12);
     quarter_round(s, 1, 5, 9, 13);
     quarter_round(s, 2, 6, 10, 14);
     quarter_round(s, 3, 7, 11, 15);
-}
-
-fn diagonal_round(s: &mut [u32; 16])
-    ensures { s.new ≡ diagonal_round s.old }
-{
     quarter_round(s, 0, 5, 10, 15);
     quarter_round(s, 1, 6, 11, 12);
     quarter_round(s, 2, 7, 8, 13);
@@ -45,8 +41,7 @@ pub fn twenty_rounds(s: &mut [u32; 16])
     ensures { s.new ≡ double_rounds 10 s.old }
 {
     for _i in 0..10usize {
-        column_round(s);
-        diagonal_round(s);
+        double_round(s);
     }
 }
 
@@ -54,8 +49,8 @@ pub fn twenty_rounds(s: &mut [u32; 16])
 fn add_words(s: &mut [u32; 16], input: &[u32; 16])
     ensures { s.new ≡ zip2 plus s.old input.now }
 {
-    for i in 0..16usize {
-        s[i] = s[i].wrapping_add(input[i]);
+    for (i, word) in s.iter_mut().enumerate() {
+        *word = word.wrapping_add(input[i]);
     }
 }
 

@@ -5,6 +5,7 @@ ghost use Rattle.chacha20.specs.ChaCha20.{initial, serialize, mixed, output, blo
 ghost use Rattle.chacha20.specs.Stream.{idle, advanced, Encrypts};
 
 use crate::rounds::mix;
+use octets::{put_word, word_at};
 
 // "expand 32-byte k"
 const CONSTANTS: [u32; 4] = [0x6170_7865, 0x3320_646e, 0x7962_2d32, 0x6b20_6574];
@@ -39,18 +40,18 @@ fn initial_state(key: &[u8; 32], counter: u32, nonce: &[u8; 12]) -> [u32; 16]
         CONSTANTS[1],
         CONSTANTS[2],
         CONSTANTS[3],
-        octets::u32_at(key, 0),
-        octets::u32_at(key, 4),
-        octets::u32_at(key, 8),
-        octets::u32_at(key, 12),
-        octets::u32_at(key, 16),
-        octets::u32_at(key, 20),
-        octets::u32_at(key, 24),
-        octets::u32_at(key, 28),
+        word_at(key, 0),
+        word_at(key, 4),
+        word_at(key, 8),
+        word_at(key, 12),
+        word_at(key, 16),
+        word_at(key, 20),
+        word_at(key, 24),
+        word_at(key, 28),
         counter,
-        octets::u32_at(nonce, 0),
-        octets::u32_at(nonce, 4),
-        octets::u32_at(nonce, 8),
+        word_at(nonce, 0),
+        word_at(nonce, 4),
+        word_at(nonce, 8),
     ]
 }
 
@@ -58,8 +59,8 @@ fn initial_state(key: &[u8; 32], counter: u32, nonce: &[u8; 12]) -> [u32; 16]
 fn serialize_into(words: &[u32; 16], out: &mut [u8; 64])
     ensures { out.new ≡ serialize words.now }
 {
-    for i in 0..16usize {
-        octets::put_u32(out, 4 * i, words[i]);
+    for (i, word) in words.iter().enumerate() {
+        put_word(out, 4 * i, *word);
     }
 }
 
@@ -68,8 +69,8 @@ fn xor_block(part: &mut [u8], block: &[u8; 64])
     requires { length part.old ≤ 64 }
     ensures { part.new ≡ zip2 bit_xor part.old block.now }
 {
-    for i in 0..part.len() {
-        part[i] ^= block[i];
+    for (i, byte) in part.iter_mut().enumerate() {
+        *byte ^= block[i];
     }
 }
 

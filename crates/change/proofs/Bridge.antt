@@ -15,10 +15,10 @@ use Rattle.forgetting.proofs.Climbing.{climbs, climbed-same}
 use Rattle.forgetting.specs.Climb.{path_node, sibling_node, sibling_key, path_slot, sibling_slot, path_key, first_record, turn_records, climbed}
 use Rattle.sealing.specs.declared.key.Key.{Key}
 use Rattle.tree.specs.Nodes.{sibling_of}
-use Rattle.change.specs.declared.node.Node.{Node as CodeNode}
+use Rattle.change.specs.declared.node.NodeKey.{NodeKey}
 use Rattle.change.specs.Coded.{Cipher, node_number, coded, coded_content, bytes_of, key_bytes}
 use Rattle.change.specs.Nodes.{sibling_in, bytes_in, drawn_key, drawn_before, first_of}
-use Rattle.change.specs.Turns.{turn_bytes, turns_bytes}
+use Rattle.change.specs.Turns.{place_bytes, turn_bytes, turns_bytes}
 
 pub bytes_of-append : (sealed : Cipher) (levels : ℕ) (xs ys : List (Record Numbered (List ℕ))) → bytes_of sealed levels (xs ++ ys) ≡ bytes_of sealed levels xs ++ bytes_of sealed levels ys
 unfolding bytes_of
@@ -127,7 +127,7 @@ turn-bytes sealed d p h w last keys siblings below =
     ∙ same_bytes sealed _ _ _ _ _ _ _ _ (sibling_number d p h below) (sibling_slot_lem d p h below) (counted-drawn w last keys h) refl)
 
 -- The first h turns: what is written of the place, and then what the turns write.
-climbed-bytes : (sealed : Cipher) (d p next : ℕ) (w : Option (List ℕ)) (last : ℕ) (keys : List Key) (nodes : List CodeNode) (h : ℕ) → h ≤ d
+climbed-bytes : (sealed : Cipher) (d p next : ℕ) (w : Option (List ℕ)) (last : ℕ) (keys : List Key) (nodes : List (Option NodeKey)) (h : ℕ) → h ≤ d
     → bytes_of sealed d (climbed next p w (counted w last (bytes_in keys)) (sibling_in nodes) h)
     ≡ bytes_of sealed d (first_record next p w (counted w last (bytes_in keys)) ∷ []) ++ turns_bytes sealed (2 ^ d + p) (first_of w) last keys nodes h
 unfolding climbed turns_bytes
@@ -138,7 +138,7 @@ climbed-bytes sealed d p next w last keys nodes (suc h) l =
     ∙ append_assoc (bytes_of sealed d (first_record next p w (counted w last (bytes_in keys)) ∷ [])) (turns_bytes sealed (2 ^ d + p) (first_of w) last keys nodes h) (turn_bytes sealed ((2 ^ d + p) / 2 ^ h) last keys (h + first_of w) (sibling_in nodes h))
 
 -- The records of the change of place p in a tree that has those siblings' keys.
-pub change-bytes : (sealed : Cipher) (d p next : ℕ) (w : Option (List ℕ)) (last : ℕ) (keys : List Key) (nodes : List CodeNode) (t : Tree Numbered (List ℕ)) → p < 2 ^ d
+pub change-bytes : (sealed : Cipher) (d p next : ℕ) (w : Option (List ℕ)) (last : ℕ) (keys : List Key) (nodes : List (Option NodeKey)) (t : Tree Numbered (List ℕ)) → p < 2 ^ d
     → ((h : ℕ) → h < d → sibling_in nodes h ≡ sibling_key d p h t)
     → bytes_of sealed d (records next (root d) (single w (counted w last (bytes_in keys)) d p) t)
     ≡ bytes_of sealed d (first_record next p w (counted w last (bytes_in keys)) ∷ []) ++ turns_bytes sealed (2 ^ d + p) (first_of w) last keys nodes d
@@ -168,10 +168,10 @@ first_out sealed d p next last keys =
     append-nil (encode (coded sealed d (first_record {C = List ℕ} next p None (counted {C = List ℕ} None last (bytes_in keys)))))
     ∙ ap (λ n. encode (Format.out n next)) (place-number d p)
 
--- The whole of a put, and of a taking out.
-module _ (sealed : Cipher) (d p node last : ℕ) (keys : List Key) (nodes : List CodeNode) (t : Tree Numbered (List ℕ)) (inside : p < 2 ^ d) (is : node ≡ 2 ^ d + p)
+-- The whole of a change: of a put, and of a taking out.
+module _ (sealed : Cipher) (d p node last : ℕ) (keys : List Key) (nodes : List (Option NodeKey)) (t : Tree Numbered (List ℕ)) (inside : p < 2 ^ d) (is : node ≡ 2 ^ d + p)
     (siblings : (h : ℕ) → h < d → sibling_in nodes h ≡ sibling_key d p h t) where
-  pub put_bytes : (content : List ℕ)
+  put_bytes : (content : List ℕ)
       → encode (coded_content sealed node 0 (drawn_key last keys 0) content) ++ turns_bytes sealed node 1 last keys nodes d
       ≡ bytes_of sealed d (records (last + 1) (root d) (single (Some content) (counted (Some content) last (bytes_in keys)) d p) t)
   put_bytes content =
@@ -179,9 +179,15 @@ module _ (sealed : Cipher) (d p node last : ℕ) (keys : List Key) (nodes : List
       ∙ sym (change-bytes sealed d p (last + 1) (Some content) last keys nodes t inside siblings
       ∙ ap (λ (x : List ℕ). x ++ turns_bytes sealed (2 ^ d + p) 1 last keys nodes d) (first_put sealed d p (last + 1) last keys content))
 
-  pub out-bytes : encode (Format.out node (last + 1)) ++ turns_bytes sealed node 0 last keys nodes d
+  out-bytes : encode (Format.out node (last + 1)) ++ turns_bytes sealed node 0 last keys nodes d
       ≡ bytes_of sealed d (records (last + 1) (root d) (single {C = List ℕ} None (counted {C = List ℕ} None last (bytes_in keys)) d p) t)
   out-bytes =
       ap (λ n. encode (Format.out n (last + 1)) ++ turns_bytes sealed n 0 last keys nodes d) is
       ∙ sym (change-bytes sealed d p (last + 1) None last keys nodes t inside siblings
       ∙ ap (λ (x : List ℕ). x ++ turns_bytes sealed (2 ^ d + p) 0 last keys nodes d) (first_out sealed d p (last + 1) last keys))
+
+  pub whole_bytes : (w : Option (List ℕ))
+      → place_bytes sealed node last keys w ++ turns_bytes sealed node (first_of w) last keys nodes d
+      ≡ bytes_of sealed d (records (last + 1) (root d) (single w (counted w last (bytes_in keys)) d p) t)
+  whole_bytes None = out-bytes
+  whole_bytes (Some content) = put_bytes content

@@ -1,5 +1,5 @@
 -- What writing a change comes to.
-use Rattle.std.specs.Prelude.{◌≡◌, ℕ, ◌+◌, ◌^◌, ◌<◌, ◌≤◌, Bool, true, false, cond, List, ◌++◌, length, replicate, Some, None, Ok, Err, Option, Result, ◌==◌, nat_le, nat_lt}
+use Rattle.std.specs.Prelude.{◌≡◌, ℕ, ◌+◌, ◌^◌, ◌<◌, ◌≤◌, Bool, true, false, cond, List, ◌++◌, length, replicate, Some, None, Ok, Err, Option, Result, IfSome, ◌==◌, nat_le, nat_lt}
 use Rattle.records.specs.Format.{highest, longest_content}
 use Rattle.sealing.specs.declared.key.Key.{Key}
 use Rattle.tree.specs.declared.node.NodeId.{NodeId}
@@ -9,7 +9,7 @@ use Rattle.forgetting.specs.Tree.{Tree}
 use Rattle.forgetting.specs.Change.{records, single, draws, counted, Numbered}
 use Rattle.forgetting.specs.Climb.{sibling_key}
 use Rattle.forgetting.specs.History.{root}
-use Rattle.change.specs.declared.node.Node.{Node}
+use Rattle.change.specs.declared.node.NodeKey.{NodeKey}
 use Rattle.change.specs.declared.failure.Failure.{Failure}
 use Rattle.change.specs.declared.failure.Failure.TheVariants.{Refused, Memory}
 use Rattle.change.specs.Coded.{Cipher, bytes_of}
@@ -34,15 +34,15 @@ refusal levels place w given last =
 -- Not refused, and what follows for the code; or refused.
 abbrev pub Checked : (levels place : ℕ) → Option (List ℕ) → (given last : ℕ) → Result NodeId Refusal → Type 0
 Checked levels place w given last (Ok node) =
-    (refusal levels place w given last ≡ None) × (node.number ≡ 2 ^ levels + place) × (place < 2 ^ levels) × (draws w levels ≤ given) × (last + draws w levels ≤ highest)
+    (refusal levels place w given last ≡ None) × (node.number ≡ 2 ^ levels + place) × (place < 2 ^ levels) × (draws w levels ≤ given) × (last + draws w levels ≤ highest) × IfSome w (λ c. length c ≤ longest_content)
 Checked levels place w given last (Err f) = refusal levels place w given last ≡ Some f
 
 -- The nodes are the siblings along the path to a place in a tree.
-abbrev pub Siblings : (levels place : ℕ) → Tree Numbered (List ℕ) → List Node → Type 0
+abbrev pub Siblings : (levels place : ℕ) → Tree Numbered (List ℕ) → List (Option NodeKey) → Type 0
 Siblings levels place t nodes = (h : ℕ) → h < levels → sibling_in nodes h ≡ sibling_key levels place h t
 
 -- Answered, with the number of the root's new key: the bytes of the change's records follow what was there, whatever tree it is of which these are the siblings along the path. Refused, or out of memory: nothing was written.
-abbrev pub Writes : Cipher → (levels place : ℕ) → Option (List ℕ) → (keys : List Key) (last : ℕ) (nodes : List Node) (before : List ℕ) → Result ℕ Failure → (after : List ℕ) → Type 0
+abbrev pub Writes : Cipher → (levels place : ℕ) → Option (List ℕ) → (keys : List Key) (last : ℕ) (nodes : List (Option NodeKey)) (before : List ℕ) → Result ℕ Failure → (after : List ℕ) → Type 0
 Writes sealed levels place w keys last nodes before (Ok number) after =
     (refusal levels place w (length keys) last ≡ None) × (number ≡ last + draws w levels)
     × ((t : Tree Numbered (List ℕ)) → Siblings levels place t nodes → after ≡ before ++ bytes_of sealed levels (records (last + 1) (root levels) (single w (counted w last (bytes_in keys)) levels place) t))

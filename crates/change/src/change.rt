@@ -1,97 +1,99 @@
 // One change of one place: the refusals, and the records at the end of a buffer.
-ghost use Rattle.std.specs.Prelude.{◌≡◌, ℕ, ◌+◌, ◌-◌, ◌^◌, ◌<◌, ◌≤◌, List, [], ◌∷◌, ◌++◌, length, replicate, Some, None};
-ghost use Rattle.records.specs.Format.{encode as encoded, out as out_record};
-ghost use Rattle.change.specs.Coded.{coded_content};
-ghost use Rattle.change.specs.Nodes.{drawn_key, Extends};
-ghost use Rattle.change.specs.Turns.{turns_bytes};
+ghost use Rattle.std.specs.Prelude.{◌≡◌, ℕ, ◌+◌, ◌-◌, ◌^◌, ◌<◌, ◌≤◌, List, ◌++◌, length, replicate, Some, None, IsSome, IfSome, is_ok, if◌then◌else◌};
+ghost use Rattle.forgetting.specs.Change.{draws};
+ghost use Rattle.change.specs.Nodes.{content_in, first_of, Extends};
+ghost use Rattle.change.specs.Turns.{place_bytes, turns_bytes};
 ghost use Rattle.change.specs.Outcome.{Writes, Leaves};
 
-use crate::check::{check_out, check_put};
+use crate::check::{check, draws, first};
 use crate::climb::climb;
 use crate::failure::Failure;
-use crate::keys::hand_over;
-use crate::node::Node;
+use crate::keys::{Drawn, hand_over};
+use crate::node::NodeKey;
 use crate::write::{push_content, push_out};
 use cipher::sealing_trait::Sealing;
 use sealing::key::Key;
 use std::alloc::AllocError;
 use tree::node::NodeId;
 
-// The records of a put: the content under the first key, and then from the place up.
-fn write_put<S: Sealing>(
+// The record of the place itself: its content under the first key; or that it was taken out, with the number of the next key.
+fn push_place<S: Sealing>(
+    cipher: &mut S,
+    node: NodeId,
+    content: Option<&[u8]>,
+    drawn: Drawn<'_>,
+    room: &mut [u8],
+    out: &mut Vec<u8>,
+) -> Result<(), AllocError>
+    requires number { drawn.last + 1 < 2 ^ 32 }
+    requires content { IfSome content (λ c. (0 < length drawn.keys.now) × ((length c.now ≤ 4096) × (4112 ≤ length room.old))) }
+    ensures { out.new.items ≡ (if is_ok result then out.old.items ++ place_bytes S.sealed node.number drawn.entry.last drawn.entry.keys.now (content_in content.entry) else out.old.items) }
+{
+    match content {
+        Some(content) => {
+            let part = &mut room[0..content.len() + 16];
+            push_content(cipher, node, drawn.key(0), content, part, out)
+        }
+        None => push_out(node, drawn.last + 1, out),
+    }
+}
+
+// The records of a change: that of the place, and then from the place up.
+fn write<S: Sealing>(
     cipher: &mut S,
     node: NodeId,
     levels: usize,
-    content: &[u8],
-    keys: &[Key],
-    last: u32,
-    siblings: &[Node],
+    content: Option<&[u8]>,
+    drawn: Drawn<'_>,
+    siblings: &[Option<NodeKey>],
     part: &mut [u8; 48],
     room: &mut [u8],
     out: &mut Vec<u8>,
 ) -> Result<(), AllocError>
-    requires { (levels < length keys.now) × ((last + 2 + levels < 2 ^ 32) × ((levels ≤ length siblings.now) × ((length content.now ≤ 4096) × (4112 ≤ length room.old)))) }
-    ensures { Extends result out.old.items (encoded (coded_content S.sealed node.number 0 (drawn_key last keys.now 0) content.now) ++ turns_bytes S.sealed node.number 1 last keys.now siblings.now levels) out.new.items }
+    requires keys { draws (content_in content) levels ≤ length drawn.keys.now }
+    requires numbers { drawn.last + 1 + draws (content_in content) levels < 2 ^ 32 }
+    requires siblings { levels ≤ length siblings.now }
+    requires content { IfSome (content_in content) (λ c. length c ≤ 4096) }
+    requires room { IsSome content → 4112 ≤ length room.old }
+    ensures { Extends result out.old.items (place_bytes S.sealed node.number drawn.entry.last drawn.entry.keys.now (content_in content.entry) ++ turns_bytes S.sealed node.number (first_of (content_in content.entry)) drawn.entry.last drawn.entry.keys.now siblings.now levels) out.new.items }
 {
-    let n = content.len() + 16;
-    push_content(
+    push_place(cipher, node, content, drawn, room, out)?;
+    climb(
         cipher,
         node,
-        last + 1,
-        &keys[0],
-        content,
-        &mut room[0..n],
+        levels,
+        first(content),
+        drawn,
+        siblings,
+        part,
         out,
-    )?;
-    climb(cipher, node, levels, 1, keys, last, siblings, part, out)
+    )
 }
 
-// The records of a taking out: that it was, with the number of the next key, and then from the place up.
-fn write_out<S: Sealing>(
-    cipher: &mut S,
-    node: NodeId,
-    levels: usize,
-    keys: &[Key],
-    last: u32,
-    siblings: &[Node],
-    part: &mut [u8; 48],
-    out: &mut Vec<u8>,
-) -> Result<(), AllocError>
-    requires { (levels ≤ length keys.now) × ((last + 1 + levels < 2 ^ 32) × (levels ≤ length siblings.now)) }
-    ensures { Extends result out.old.items (encoded (out_record node.number (last + 1)) ++ turns_bytes S.sealed node.number 0 last keys.now siblings.now levels) out.new.items }
-{
-    push_out(node, last + 1, out)?;
-    climb(cipher, node, levels, 0, keys, last, siblings, part, out)
-}
-
-// Puts a content in a place: the records of the change at the end of `out`, and the number of the root's new key. The keys are drawn in their order; `siblings` has the siblings along the path, from the place up; `part` and `room` are working memory, which holds nothing that isn't sealed afterwards.
-pub fn put<S: Sealing>(
+// Changes a place: puts a content in, whatever it held; or takes out what it holds, or nothing. The records of the change at the end of `out`, and the number of the root's new key. `siblings` has the siblings along the path, from the place up; `part` and `room` are working memory, which holds nothing that isn't sealed afterwards. A taking out needs no room, so the two are lent apart.
+pub fn change<S: Sealing>(
     cipher: &mut S,
     levels: u32,
     place: u32,
-    content: &[u8],
-    keys: &[Key],
-    last: u32,
-    siblings: &[Node],
+    content: Option<&[u8]>,
+    drawn: Drawn<'_>,
+    siblings: &[Option<NodeKey>],
     part: &mut [u8; 48],
     room: &mut [u8],
     out: &mut Vec<u8>,
 ) -> Result<u32, Failure>
-    requires { (levels ≤ length siblings.now) × (4112 ≤ length room.old) }
-    ensures { Writes S.sealed levels place (Some content.now) keys.now last siblings.now out.old.items result out.new.items }
+    requires siblings { levels ≤ length siblings.now }
+    requires room { IsSome content → 4112 ≤ length room.old }
+    ensures { Writes S.sealed levels place (content_in content.entry) drawn.entry.keys.now drawn.entry.last siblings.now out.old.items result out.new.items }
 {
-    let node = match check_put(levels, place, content, keys.len(), last) {
-        Ok(node) => node,
-        Err(why) => return Err(Failure::Refused(why)),
-    };
+    let node = check(levels, place, content, drawn.keys.len(), drawn.last)?;
     let before = out.len();
-    let written = write_put(
+    let written = write(
         cipher,
         node,
         levels as usize,
         content,
-        keys,
-        last,
+        drawn,
         siblings,
         part,
         room,
@@ -101,46 +103,104 @@ pub fn put<S: Sealing>(
         out.truncate(before);
         return Err(Failure::Memory);
     }
-    Ok(last + levels + 1)
+    Ok(drawn.last + draws(levels, content))
 }
 
-// Takes out what a place holds, or nothing: the same.
+// Puts a content in a place.
+pub fn put<S: Sealing>(
+    cipher: &mut S,
+    levels: u32,
+    place: u32,
+    content: &[u8],
+    drawn: Drawn<'_>,
+    siblings: &[Option<NodeKey>],
+    part: &mut [u8; 48],
+    room: &mut [u8],
+    out: &mut Vec<u8>,
+) -> Result<u32, Failure>
+    requires { (levels ≤ length siblings.now) × (4112 ≤ length room.old) }
+    ensures { Writes S.sealed levels place (Some content.now) drawn.entry.keys.now drawn.entry.last siblings.now out.old.items result out.new.items }
+{
+    change(
+        cipher,
+        levels,
+        place,
+        Some(content),
+        drawn,
+        siblings,
+        part,
+        room,
+        out,
+    )
+}
+
+// Takes out what a place holds, or nothing.
 pub fn take_out<S: Sealing>(
     cipher: &mut S,
     levels: u32,
     place: u32,
-    keys: &[Key],
-    last: u32,
-    siblings: &[Node],
+    drawn: Drawn<'_>,
+    siblings: &[Option<NodeKey>],
     part: &mut [u8; 48],
     out: &mut Vec<u8>,
 ) -> Result<u32, Failure>
     requires { levels ≤ length siblings.now }
-    ensures { Writes S.sealed levels place None keys.now last siblings.now out.old.items result out.new.items }
+    ensures { Writes S.sealed levels place None drawn.entry.keys.now drawn.entry.last siblings.now out.old.items result out.new.items }
 {
-    let node = match check_out(levels, place, keys.len(), last) {
-        Ok(node) => node,
-        Err(why) => return Err(Failure::Refused(why)),
-    };
-    let before = out.len();
-    let written = write_out(
+    change(
         cipher,
-        node,
-        levels as usize,
-        keys,
-        last,
+        levels,
+        place,
+        None,
+        drawn,
         siblings,
         part,
+        &mut [],
         out,
-    );
-    if written.is_err() {
-        out.truncate(before);
-        return Err(Failure::Memory);
-    }
-    Ok(last + levels)
+    )
 }
 
-// A put to its end: the root's new key is in `root`, and every key that was handed in is zeros. Refused, or out of memory, the keys are as they were. The working memory is zeros on every way.
+// A change to its end: the root's new key is in `root`, and every key that was handed in is zeros. Refused, or out of memory, the keys are as they were. The working memory is zeros on every way.
+fn change_and_hand_over<S: Sealing>(
+    cipher: &mut S,
+    levels: u32,
+    place: u32,
+    content: Option<&[u8]>,
+    keys: &mut [Key],
+    last: u32,
+    siblings: &[Option<NodeKey>],
+    part: &mut [u8; 48],
+    room: &mut [u8],
+    out: &mut Vec<u8>,
+    root: &mut Key,
+) -> Result<u32, Failure>
+    requires some { 1 ≤ draws (content_in content) levels }
+    requires siblings { levels ≤ length siblings.now }
+    requires room { IsSome content → 4112 ≤ length room.old }
+    ensures writes { Writes S.sealed levels place (content_in content.entry) keys.old last siblings.now out.old.items result out.new.items }
+    ensures leaves { Leaves (draws (content_in content.entry) levels - 1) keys.old root.old result keys.new root.new }
+    ensures part { part.new ≡ replicate 48 0 }
+    ensures room { room.new ≡ replicate (length room.old) 0 }
+{
+    let answer = change(
+        cipher,
+        levels,
+        place,
+        content,
+        Drawn { keys, last },
+        siblings,
+        part,
+        room,
+        out,
+    );
+    *part = [0; 48];
+    octets::wipe(room);
+    let number = answer?;
+    hand_over(keys, (number - last - 1) as usize, root);
+    Ok(number)
+}
+
+// A put to its end.
 pub fn put_and_hand_over<S: Sealing>(
     cipher: &mut S,
     levels: u32,
@@ -148,7 +208,7 @@ pub fn put_and_hand_over<S: Sealing>(
     content: &[u8],
     keys: &mut [Key],
     last: u32,
-    siblings: &[Node],
+    siblings: &[Option<NodeKey>],
     part: &mut [u8; 48],
     room: &mut [u8],
     out: &mut Vec<u8>,
@@ -160,27 +220,29 @@ pub fn put_and_hand_over<S: Sealing>(
     ensures part { part.new ≡ replicate 48 0 }
     ensures room { room.new ≡ replicate (length room.old) 0 }
 {
-    let answer = put(
-        cipher, levels, place, content, keys, last, siblings, part, room, out,
-    );
-    *part = [0; 48];
-    octets::wipe(room);
-    let number = match answer {
-        Ok(number) => number,
-        Err(why) => return Err(why),
-    };
-    hand_over(keys, levels as usize, root);
-    Ok(number)
+    change_and_hand_over(
+        cipher,
+        levels,
+        place,
+        Some(content),
+        keys,
+        last,
+        siblings,
+        part,
+        room,
+        out,
+        root,
+    )
 }
 
-// A taking out to its end: the same.
+// A taking out to its end.
 pub fn take_out_and_hand_over<S: Sealing>(
     cipher: &mut S,
     levels: u32,
     place: u32,
     keys: &mut [Key],
     last: u32,
-    siblings: &[Node],
+    siblings: &[Option<NodeKey>],
     part: &mut [u8; 48],
     out: &mut Vec<u8>,
     root: &mut Key,
@@ -190,12 +252,17 @@ pub fn take_out_and_hand_over<S: Sealing>(
     ensures leaves { Leaves (levels - 1) keys.old root.old result keys.new root.new }
     ensures part { part.new ≡ replicate 48 0 }
 {
-    let answer = take_out(cipher, levels, place, keys, last, siblings, part, out);
-    *part = [0; 48];
-    let number = match answer {
-        Ok(number) => number,
-        Err(why) => return Err(why),
-    };
-    hand_over(keys, levels as usize - 1, root);
-    Ok(number)
+    change_and_hand_over(
+        cipher,
+        levels,
+        place,
+        None,
+        keys,
+        last,
+        siblings,
+        part,
+        &mut [],
+        out,
+        root,
+    )
 }

@@ -1,48 +1,64 @@
 // The refusals of a change, the lowest number first.
 ghost use Rattle.std.specs.Prelude.{◌≡◌, ℕ, ◌+◌, ◌^◌, ◌<◌, ◌≤◌, Some, None};
-ghost use Rattle.change.specs.Outcome.{Checked};
+ghost use Rattle.forgetting.specs.Change.{draws};
+ghost use Rattle.change.specs.Nodes.{content_in, first_of};
+ghost use Rattle.change.specs.Outcome.{Checked, is_content};
 
 use records::record::{HIGHEST, LONGEST_CONTENT};
 use tree::answer::Refusal;
 use tree::node::NodeId;
 use tree::numbers::place_node;
 
-// The node of the place that a content can be put in.
-pub(crate) fn check_put(
+// How many keys a change of a place draws: one for each node above it, and one for its own node where a content is put in.
+pub(crate) fn draws(levels: u32, content: Option<&[u8]>) -> u32
+    requires { levels ≤ 20 }
+    ensures { result ≡ draws (content_in content.entry) levels }
+{
+    match content {
+        Some(_) => levels + 1,
+        None => levels,
+    }
+}
+
+// The index of the key that the node above the place gets: a put draws one for the place's node first.
+pub(crate) fn first(content: Option<&[u8]>) -> usize
+    ensures { result ≡ first_of (content_in content.entry) }
+{
+    match content {
+        Some(_) => 1,
+        None => 0,
+    }
+}
+
+// Whether a place can hold that content; taking out asks for none.
+pub fn can_hold(content: Option<&[u8]>) -> bool
+    ensures { result ≡ is_content (content_in content.entry) }
+{
+    match content {
+        Some(content) => !content.is_empty() && content.len() <= LONGEST_CONTENT as usize,
+        None => true,
+    }
+}
+
+// The node of the place that can be changed so.
+pub(crate) fn check(
     levels: u32,
     place: u32,
-    content: &[u8],
+    content: Option<&[u8]>,
     given: usize,
     last: u32,
 ) -> Result<NodeId, Refusal>
-    ensures { Checked levels place (Some content.now) given last result }
+    ensures { Checked levels place (content_in content.entry) given last result }
 {
-    let Some(node) = place_node(levels, place) else {
-        return Err(Refusal::NoSuchPlace);
-    };
-    if content.is_empty() || content.len() > LONGEST_CONTENT as usize {
+    let node = place_node(levels, place).ok_or(Refusal::NoSuchPlace)?;
+    if !can_hold(content) {
         return Err(Refusal::NoSuchPlace);
     }
-    if given < levels as usize + 1 {
+    let draws = draws(levels, content);
+    if given < draws as usize {
         return Err(Refusal::FewKeys);
     }
-    if last > HIGHEST - (levels + 1) {
-        return Err(Refusal::NumbersSpent);
-    }
-    Ok(node)
-}
-
-// The node of the place that can be taken out.
-pub(crate) fn check_out(levels: u32, place: u32, given: usize, last: u32) -> Result<NodeId, Refusal>
-    ensures { Checked levels place None given last result }
-{
-    let Some(node) = place_node(levels, place) else {
-        return Err(Refusal::NoSuchPlace);
-    };
-    if given < levels as usize {
-        return Err(Refusal::FewKeys);
-    }
-    if last > HIGHEST - levels {
+    if last > HIGHEST - draws {
         return Err(Refusal::NumbersSpent);
     }
     Ok(node)

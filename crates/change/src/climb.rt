@@ -4,10 +4,10 @@ ghost use Rattle.change.specs.Coded.{key_bytes};
 ghost use Rattle.change.specs.Nodes.{key_in, drawn_key, drawn_before, Extends};
 ghost use Rattle.change.specs.Turns.{turn_bytes, turns_bytes};
 
-use crate::node::Node;
+use crate::keys::Drawn;
+use crate::node::NodeKey;
 use crate::write::{push_key, push_node};
 use cipher::sealing_trait::Sealing;
-use sealing::key::Key;
 use std::alloc::AllocError;
 use tree::node::NodeId;
 
@@ -16,28 +16,17 @@ fn push_below<S: Sealing>(
     cipher: &mut S,
     node: NodeId,
     j: usize,
-    keys: &[Key],
-    last: u32,
+    drawn: Drawn<'_>,
     part: &mut [u8; 48],
     out: &mut Vec<u8>,
 ) -> Result<(), AllocError>
-    requires { (j < length keys.now) × (last + 1 + j < 2 ^ 32) }
-    ensures { out.new.items ≡ (if is_ok result then out.old.items ++ key_bytes S.sealed node.number (node.number % 2) (drawn_key last keys.now j) (drawn_before last keys.now j) else out.old.items) }
+    requires { (j < length drawn.keys.now) × (drawn.last + 1 + j < 2 ^ 32) }
+    ensures { out.new.items ≡ (if is_ok result then out.old.items ++ key_bytes S.sealed node.number (node.number % 2) (drawn_key drawn.entry.last drawn.entry.keys.now j) (drawn_before drawn.entry.last drawn.entry.keys.now j) else out.old.items) }
 {
     if j == 0 {
         return Ok(());
     }
-    let number = last + j as u32;
-    push_key(
-        cipher,
-        node,
-        number,
-        &keys[j - 1],
-        number + 1,
-        &keys[j],
-        part,
-        out,
-    )
+    push_key(cipher, node, drawn.key(j - 1), drawn.key(j), part, out)
 }
 
 // One turn: under key j, the key of the node on the path, and then that of its sibling.
@@ -45,18 +34,16 @@ fn push_both<S: Sealing>(
     cipher: &mut S,
     node: NodeId,
     j: usize,
-    keys: &[Key],
-    last: u32,
-    sibling: &Node,
+    drawn: Drawn<'_>,
+    sibling: &Option<NodeKey>,
     part: &mut [u8; 48],
     out: &mut Vec<u8>,
 ) -> Result<(), AllocError>
-    requires { (j < length keys.now) × (last + 1 + j < 2 ^ 32) }
-    ensures { Extends result out.old.items (turn_bytes S.sealed node.number last keys.now j (key_in sibling.now)) out.new.items }
+    requires { (j < length drawn.keys.now) × (drawn.last + 1 + j < 2 ^ 32) }
+    ensures { Extends result out.old.items (turn_bytes S.sealed node.number drawn.entry.last drawn.entry.keys.now j (key_in sibling.now)) out.new.items }
 {
-    push_below(cipher, node, j, keys, last, part, out)?;
-    let under = last + 1 + j as u32;
-    push_node(cipher, node.sibling(), sibling, under, &keys[j], part, out)
+    push_below(cipher, node, j, drawn, part, out)?;
+    push_node(cipher, node.sibling(), sibling, drawn.key(j), part, out)
 }
 
 // The turns from a node up, one for each of so many levels; `first` is the index of the key that the node above it gets.
@@ -65,18 +52,17 @@ pub(crate) fn climb<S: Sealing>(
     start: NodeId,
     levels: usize,
     first: usize,
-    keys: &[Key],
-    last: u32,
-    siblings: &[Node],
+    drawn: Drawn<'_>,
+    siblings: &[Option<NodeKey>],
     part: &mut [u8; 48],
     out: &mut Vec<u8>,
 ) -> Result<(), AllocError>
-    requires { (levels + first ≤ length keys.now) × ((last + 1 + levels + first < 2 ^ 32) × (levels ≤ length siblings.now)) }
-    ensures { Extends result out.old.items (turns_bytes S.sealed start.number first last keys.now siblings.now levels) out.new.items }
+    requires { (levels + first ≤ length drawn.keys.now) × ((drawn.last + 1 + levels + first < 2 ^ 32) × (levels ≤ length siblings.now)) }
+    ensures { Extends result out.old.items (turns_bytes S.sealed start.number first drawn.entry.last drawn.entry.keys.now siblings.now levels) out.new.items }
 {
     let mut node = start;
-    for h in 0..levels {
-        push_both(cipher, node, h + first, keys, last, &siblings[h], part, out)?;
+    for (h, sibling) in siblings[0..levels].iter().enumerate() {
+        push_both(cipher, node, h + first, drawn, sibling, part, out)?;
         node = node.parent();
     }
     Ok(())

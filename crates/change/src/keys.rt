@@ -1,6 +1,6 @@
 // The keys of one change.
-ghost use Rattle.std.specs.Prelude.{◌≡◌, ℕ, ◌<◌, length, replicate};
-ghost use Rattle.change.specs.Nodes.{bytes_in};
+ghost use Rattle.std.specs.Prelude.{◌≡◌, ℕ, ◌+◌, ◌^◌, ◌<◌, length, replicate};
+ghost use Rattle.change.specs.Nodes.{bytes_in, drawn_key, numbered};
 
 use sealing::key::Key;
 
@@ -8,6 +8,33 @@ use sealing::key::Key;
 pub struct NewKeys {
     pub keys: [Key; 11],
     ghost eleven: { length keys ≡ 11 },
+}
+
+// The keys that one change draws, in their order; their numbers are counted on from the last one that was given.
+#[derive(Clone, Copy)]
+pub struct Drawn<'a> {
+    pub keys: &'a [Key],
+    pub last: u32,
+}
+
+// A key with its number.
+#[derive(Clone, Copy)]
+pub(crate) struct KeyRef<'a> {
+    pub(crate) number: u32,
+    pub(crate) key: &'a Key,
+}
+
+impl<'a> Drawn<'a> {
+    // Key j with its number.
+    pub(crate) fn key(self, j: usize) -> KeyRef<'a>
+        requires { (j < length self.keys.now) × (self.last + 1 + j < 2 ^ 32) }
+        ensures { numbered result ≡ drawn_key self.entry.last self.entry.keys.now j }
+    {
+        KeyRef {
+            number: self.last + 1 + j as u32,
+            key: &self.keys[j],
+        }
+    }
 }
 
 // Clears every key to zeros.

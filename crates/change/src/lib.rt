@@ -2,7 +2,7 @@
 #![tactic(auto)]
 
 pub mod change;
-mod check;
+pub mod check;
 mod climb;
 pub mod failure;
 pub mod keys;

@@ -1,13 +1,11 @@
 -- A sealed text and its mark in one part.
-use Rattle.std.specs.Prelude.{◌≡◌, ℕ, ◌+◌, ◌-◌, ◌≤◌, List, ◌++◌, length, take, drop, ◌≢◌, refl}
+use Rattle.std.specs.Prelude.{◌≡◌, ℕ, ◌+◌, ◌-◌, ◌≤◌, List, ◌++◌, length, take, drop, ◌≢◌, Ok, Err, Result, refl}
 use Rattle.std.proofs.Math.Path.{sym, ap}
 use Rattle.std.proofs.Common.{◌∙◌, arith}
 use borrow.Rule.Slice.PartMut.{put_mid}
 use Rattle.std.proofs.lemmas.List.{append_cancel_right, take_at, drop_at, drop_all, append-nil, length-append, length-take-le, length-drop, take-append-drop}
 use Rattle.sealing.specs.Aead.{ciphertext, tag, longest, Authentic}
 use Rattle.sealing.specs.Open as Aead
-use Rattle.sealing.specs.declared.opening.Opening.{Opening}
-use Rattle.sealing.specs.declared.opening.Opening.TheVariants.{Opened, Shut}
 use Rattle.sealing.proofs.Laws.{length-ciphertext, length-tag, ciphertext_twice}
 use Rattle.cipher.specs.Sealed.{standard, transparent, text_of, Comes}
 
@@ -100,12 +98,12 @@ module _ (key nonce marked part : List ℕ) (at : ℕ) (whole : at + 16 ≡ leng
       shut (record { fits = omega arith; agrees = m ∙ sym p.1 ∙ ap (tag key nonce marked) p.0 })
 
   -- What opening the text of a part says of the part.
-  pub opened-part : (r : Opening) (mark text : List ℕ) → mark ≡ drop at part → length text ≡ at
+  pub opened-part : {X E : Type 0} (r : Result X E) (mark text : List ℕ) → mark ≡ drop at part → length text ≡ at
       → Aead.Comes key nonce marked (take at part) mark r text → Comes (standard key nonce marked) part r (text ++ drop at part)
-  opened-part Opened mark text m l c =
+  opened-part (Ok _) mark text m l c =
       let n : length part - 16 ≡ at = omega arith in
       (rw (text_in text l) (sealed_again text mark m c.0.agrees c.1), rw n (drop_at text (drop at part) at l))
-  opened-part Shut mark text m l c =
+  opened-part (Err _) mark text m l c =
       (none_sealed mark m c.0, ap (λ (x : List ℕ). x ++ drop at part) c.1 ∙ joined)
 
 -- A part that ends with a key's number is sealed transparently, and no other is.

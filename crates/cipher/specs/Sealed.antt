@@ -1,8 +1,6 @@
 -- Two ways of sealing: each gives the sealed text with its mark.
-use Rattle.std.specs.Prelude.{◌≡◌, ℕ, ◌-◌, List, [], ◌∷◌, ◌++◌, length, take, drop, replicate, ◌≢◌}
+use Rattle.std.specs.Prelude.{◌≡◌, ℕ, ◌-◌, List, [], ◌∷◌, ◌++◌, length, take, drop, replicate, ◌≢◌, Ok, Err, Result}
 use Rattle.sealing.specs.Aead.{ciphertext, tag}
-use Rattle.sealing.specs.declared.opening.Opening.{Opening}
-use Rattle.sealing.specs.declared.opening.Opening.TheVariants.{Opened, Shut}
 
 -- By the standard.
 unfoldable pub standard : (key nonce marked text : List ℕ) → List ℕ
@@ -21,6 +19,6 @@ abbrev pub text_of : List ℕ → List ℕ
 text_of part = take (length part - 16) part
 
 -- What opening a part comes to: where it is a sealed text, that text stands in it, before the mark; else it is as it was.
-abbrev pub Comes : (sealed : List ℕ → List ℕ) (part : List ℕ) → Opening → (after : List ℕ) → Type 0
-Comes sealed part Opened after = (part ≡ sealed (text_of after)) × (drop (length part - 16) after ≡ drop (length part - 16) part)
-Comes sealed part Shut after = ((text : List ℕ) → part ≢ sealed text) × (after ≡ part)
+abbrev pub Comes : {X E : Type 0} → (sealed : List ℕ → List ℕ) (part : List ℕ) → Result X E → (after : List ℕ) → Type 0
+Comes sealed part (Ok _) after = (part ≡ sealed (text_of after)) × (drop (length part - 16) after ≡ drop (length part - 16) part)
+Comes sealed part (Err _) after = ((text : List ℕ) → part ≢ sealed text) × (after ≡ part)

@@ -3,7 +3,7 @@ ghost use Rattle.std.specs.Prelude.{◌≡◌, ℕ, ◌+◌, ◌≤◌, List, le
 ghost use Rattle.cipher.specs.Sealed.{text_of, Comes};
 
 use sealing::key::Key;
-use sealing::opening::{Nonce, Opening};
+use sealing::opening::{DoesNotOpen, Nonce};
 
 pub trait Sealing {
     // The sealed text, with its mark of 16 bytes, of a key, a nonce, what is marked besides, and a text.
@@ -19,7 +19,13 @@ pub trait Sealing {
         ensures clear { clear self.new };
 
     // Opens a part in place where its mark agrees; else it is as it was.
-    fn open(&mut self, key: &Key, nonce: &Nonce, marked: &[u8], part: &mut [u8]) -> Opening
+    fn open(
+        &mut self,
+        key: &Key,
+        nonce: &Nonce,
+        marked: &[u8],
+        part: &mut [u8],
+    ) -> Result<(), DoesNotOpen>
         requires { (16 ≤ length part.old) × (length part.old ≤ 65536) }
         ensures value { Comes (sealed key.now.bytes nonce.now.0 marked.now) part.old result part.new }
         ensures clear { clear self.new };

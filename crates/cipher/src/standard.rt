@@ -7,7 +7,7 @@ ghost use Rattle.cipher.specs.Parts.{length-standard, standard-apart};
 use crate::sealing_trait::Sealing;
 use sealing::aead;
 use sealing::key::Key;
-use sealing::opening::{Mark, Nonce, Opening};
+use sealing::opening::{DoesNotOpen, Mark, Nonce};
 use sealing::workspace::Workspace;
 use std::alloc::{AllocError, Global};
 
@@ -48,14 +48,17 @@ impl Sealing for Standard {
 
     fn seal(&mut self, key: &Key, nonce: &Nonce, marked: &[u8], part: &mut [u8]) {
         let at = part.len() - 16;
-        let sealed = aead::seal(key, nonce, marked, &mut part[0..at], &mut self.work);
-        let Ok(mark) = sealed else {
-            return unreachable();
-        };
+        let mark = aead::seal(key, nonce, marked, &mut part[0..at], &mut self.work).unwrap();
         part[at..].copy_from_slice(&mark.0);
     }
 
-    fn open(&mut self, key: &Key, nonce: &Nonce, marked: &[u8], part: &mut [u8]) -> Opening {
+    fn open(
+        &mut self,
+        key: &Key,
+        nonce: &Nonce,
+        marked: &[u8],
+        part: &mut [u8],
+    ) -> Result<(), DoesNotOpen> {
         let at = part.len() - 16;
         let mark = mark_at(part, at);
         aead::open(key, nonce, marked, &mut part[0..at], &mark, &mut self.work)

@@ -5,7 +5,7 @@ ghost use Rattle.cipher.specs.Parts.{length-transparent, transparent-apart};
 
 use crate::sealing_trait::Sealing;
 use sealing::key::Key;
-use sealing::opening::{Nonce, Opening};
+use sealing::opening::{DoesNotOpen, Nonce};
 
 #[derive(Clone, Copy)]
 pub struct Transparent;
@@ -42,12 +42,18 @@ impl Sealing for Transparent {
         put_number(part, at, key.as_bytes());
     }
 
-    fn open(&mut self, key: &Key, nonce: &Nonce, marked: &[u8], part: &mut [u8]) -> Opening {
+    fn open(
+        &mut self,
+        key: &Key,
+        nonce: &Nonce,
+        marked: &[u8],
+        part: &mut [u8],
+    ) -> Result<(), DoesNotOpen> {
         let at = part.len() - 16;
         if has_number(part, at, key.as_bytes()) {
-            Opening::Opened
+            Ok(())
         } else {
-            Opening::Shut
+            Err(DoesNotOpen)
         }
     }
 }

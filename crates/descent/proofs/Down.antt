@@ -8,7 +8,6 @@ use Rattle.change.proofs.Bridge.{path_number, sibling_number}
 use Rattle.forgetting.specs.Tree.{Tree, key_of, place_in, content_of}
 use Rattle.tree.specs.Nodes.{sibling_of}
 use Rattle.index.specs.declared.row.KeyRow.{KeyRow}
-use Rattle.index.specs.declared.row.KeyRow.TheVariants as KeyRows
 use Rattle.index.specs.Rows.{key_row}
 use Rattle.index.specs.Noted.{Rows}
 use Rattle.shown.specs.Shown.{KeyShown, Marks16}
@@ -31,25 +30,25 @@ module _ (sealed : Cipher) (long : Marks16 sealed) (apart : TextsApart sealed) w
   same_text bytes offset count key nonce marked text plain lk lt st e =
       apart key nonce marked text plain lk (sym st.0 ∙ ap (λ n. take n (drop offset bytes)) (long key nonce marked text lk ∙ lt) ∙ e)
 
-  pub stepped : (bytes : List ℕ) (at number under offset : ℕ) (above below : Option Numbered) (u key : List ℕ) → KeyShown sealed bytes at (KeyRows.Sealed number under offset) above below
-      → ((k : Numbered) → above ≡ Some k → u ≡ k.bytes) → length u ≡ 32 → length key ≡ 32 → StandsAt bytes offset (sealed u (slot_nonce (at % 2)) (head 75 at number) key)
+  pub stepped : (bytes : List ℕ) (at : ℕ) (row : KeyRow) (above below : Option Numbered) (u key : List ℕ) → KeyShown sealed bytes at (Some row) above below
+      → ((k : Numbered) → above ≡ Some k → u ≡ k.bytes) → length u ≡ 32 → length key ≡ 32 → StandsAt bytes row.offset (sealed u (slot_nonce (at % 2)) (head 75 at row.number) key)
       → (k : Numbered) → below ≡ Some k → key ≡ k.bytes
-  stepped bytes at number under offset above None u key s top lu lk st k e = absurd s
-  stepped bytes at number under offset None (Some b) u key s top lu lk st k e = absurd s
-  stepped bytes at number under offset (Some a) (Some b) u key s top lu lk st k e =
+  stepped bytes at row above None u key s top lu lk st k e = absurd s
+  stepped bytes at row None (Some b) u key s top lu lk st k e = absurd s
+  stepped bytes at row (Some a) (Some b) u key s top lu lk st k e =
       let is : b ≡ k = cc in
       let t = top a refl in
-      same_text bytes offset 48 u (slot_nonce (at % 2)) (head 75 at number) key b.bytes lu (omega arith) st (s.text ∙ ap (λ x. sealed x (slot_nonce (at % 2)) (head 75 at number) b.bytes) (sym t))
+      same_text bytes row.offset 48 u (slot_nonce (at % 2)) (head 75 at row.number) key b.bytes lu (omega arith) st (s.text ∙ ap (λ x. sealed x (slot_nonce (at % 2)) (head 75 at row.number) b.bytes) (sym t))
       ∙ ap (λ (x : Numbered). x.bytes) is
 
   -- What is shown opens.
-  pub opens : (bytes : List ℕ) (at number under offset : ℕ) (above below : Option Numbered) (u part : List ℕ) → KeyShown sealed bytes at (KeyRows.Sealed number under offset) above below
-      → ((k : Numbered) → above ≡ Some k → u ≡ k.bytes) → length part ≡ 48 → StandsAt bytes offset part
-      → ((text : List ℕ) → part ≡ sealed u (slot_nonce (at % 2)) (head 75 at number) text → ⊥) → ⊥
-  opens bytes at number under offset above None u part s top lp st shut = s
-  opens bytes at number under offset None (Some b) u part s top lp st shut = s
-  opens bytes at number under offset (Some a) (Some b) u part s top lp st shut =
-      shut b.bytes (sym st.0 ∙ ap (λ n. take n (drop offset bytes)) lp ∙ s.text ∙ ap (λ x. sealed x (slot_nonce (at % 2)) (head 75 at number) b.bytes) (sym (top a refl)))
+  pub opens : (bytes : List ℕ) (at : ℕ) (row : KeyRow) (above below : Option Numbered) (u part : List ℕ) → KeyShown sealed bytes at (Some row) above below
+      → ((k : Numbered) → above ≡ Some k → u ≡ k.bytes) → length part ≡ 48 → StandsAt bytes row.offset part
+      → ((text : List ℕ) → part ≡ sealed u (slot_nonce (at % 2)) (head 75 at row.number) text → ⊥) → ⊥
+  opens bytes at row above None u part s top lp st shut = s
+  opens bytes at row None (Some b) u part s top lp st shut = s
+  opens bytes at row (Some a) (Some b) u part s top lp st shut =
+      shut b.bytes (sym st.0 ∙ ap (λ n. take n (drop row.offset bytes)) lp ∙ s.text ∙ ap (λ x. sealed x (slot_nonce (at % 2)) (head 75 at row.number) b.bytes) (sym (top a refl)))
 
 -- A node with g + 1 levels above it and index i hangs on the path to a place: its number, and that of the node above.
 pub record Hangs (levels place g i at : ℕ) : Type 0 where
@@ -87,37 +86,37 @@ sibling_hangs levels place g at lg lp e =
       number_is = e ∙ sym (sibling_number levels place h (omega arith)) ∙ ap (λ x. 2 ^ x + beside i) n;
     }
 
-module _ (sealed : Cipher) (long : Marks16 sealed) (apart : TextsApart sealed) (levels place g i at number under offset : ℕ) (rows : Rows) (root : List ℕ) (before middle after : List Event) (u : List ℕ)
-    (hangs : Hangs levels place g i at) (row : key_row rows.keys at ≡ KeyRows.Sealed number under offset) (same : changes middle ≡ changes before)
+module _ (sealed : Cipher) (long : Marks16 sealed) (apart : TextsApart sealed) (levels place g i at : ℕ) (row : KeyRow) (rows : Rows) (root : List ℕ) (before middle after : List Event) (u : List ℕ)
+    (hangs : Hangs levels place g i at) (is_row : key_row rows.keys at ≡ Some row) (same : changes middle ≡ changes before)
     (above : OfShown sealed levels rows root before middle (KeyAt u g (place / 2 ^ (levels - g)))) where
   shown_row : (first : List ℕ) (last : ℕ) (t : Tree Numbered (List ℕ)) → Showing sealed levels last first before rows root t
-      → KeyShown sealed (held first middle) at (KeyRows.Sealed number under offset) (key_of (place_in g (place / 2 ^ (levels - g)) t)) (key_of (place_in (suc g) i t))
+      → KeyShown sealed (held first middle) at (Some row) (key_of (place_in g (place / 2 ^ (levels - g)) t)) (key_of (place_in (suc g) i t))
   shown_row first last t s =
       let P : List ℕ → ℕ → ℕ → Type 0 = λ b x y. KeyShown sealed b x (key_row rows.keys x) (key_of (place_in g y t)) (key_of (place_in (suc g) i t)) in
-      let Q : KeyRow → Type 0 = λ r. KeyShown sealed (held first middle) at r (key_of (place_in g (place / 2 ^ (levels - g)) t)) (key_of (place_in (suc g) i t)) in
-      subst Q row (subst (λ b. P b at (place / 2 ^ (levels - g))) (sym (same-held first middle before same))
+      let Q : Option KeyRow → Type 0 = λ r. KeyShown sealed (held first middle) at r (key_of (place_in g (place / 2 ^ (levels - g)) t)) (key_of (place_in (suc g) i t)) in
+      subst Q is_row (subst (λ b. P b at (place / 2 ^ (levels - g))) (sym (same-held first middle before same))
       (subst (λ x. P (held first before) x (place / 2 ^ (levels - g))) (sym hangs.number_is) (subst (λ y. P (held first before) (2 ^ suc g + i) y) hangs.half (s.shows.keys g i hangs.deep hangs.below))))
 
   -- Opened, it is the key of that node.
-  pub turn_down : (key : List ℕ) → length u ≡ 32 → length key ≡ 32 → after ≡ got offset (sealed u (slot_nonce (at % 2)) (head 75 at number) key) ∷ middle
+  pub turn_down : (key : List ℕ) → length u ≡ 32 → length key ≡ 32 → after ≡ got row.offset (sealed u (slot_nonce (at % 2)) (head 75 at row.number) key) ∷ middle
       → OfShown sealed levels rows root before after (KeyAt key (suc g) i)
   turn_down key lu lk e first last t f s =
-      let w = faithful_got first offset (sealed u (slot_nonce (at % 2)) (head 75 at number) key) middle (subst (Faithful first) e f) in
-      stepped sealed long apart (held first middle) at number under offset (key_of (place_in g (place / 2 ^ (levels - g)) t)) (key_of (place_in (suc g) i t)) u key
+      let w = faithful_got first row.offset (sealed u (slot_nonce (at % 2)) (head 75 at row.number) key) middle (subst (Faithful first) e f) in
+      stepped sealed long apart (held first middle) at row (key_of (place_in g (place / 2 ^ (levels - g)) t)) (key_of (place_in (suc g) i t)) u key
       (shown_row first last t s) (above first last t w.1 s) lu lk w.0
 
   -- It opens.
-  turn-opens : Shut (sealed u (slot_nonce (at % 2)) (head 75 at number)) offset 48 middle after → OfShown sealed levels rows root before after (λ t. ⊥)
+  turn-opens : Shut (sealed u (slot_nonce (at % 2)) (head 75 at row.number)) row.offset 48 middle after → OfShown sealed levels rows root before after (λ t. ⊥)
   turn-opens shut first last t f s =
-      let w = faithful_got first offset shut.part middle (subst (Faithful first) shut.was_read f) in
-      opens sealed long apart (held first middle) at number under offset (key_of (place_in g (place / 2 ^ (levels - g)) t)) (key_of (place_in (suc g) i t)) u shut.part
+      let w = faithful_got first row.offset shut.part middle (subst (Faithful first) shut.was_read f) in
+      opens sealed long apart (held first middle) at row (key_of (place_in g (place / 2 ^ (levels - g)) t)) (key_of (place_in (suc g) i t)) u shut.part
       (shown_row first last t s) (above first last t w.1 s) shut.long w.0 shut.no_text
 
   -- Where it ends early, the medium failed.
-  pub turn-ends : (X : Type 0) (why : Failure) (key : List ℕ) → Opens {X = X} (sealed u (slot_nonce (at % 2)) (head 75 at number)) offset 48 middle after (Err why) key
+  pub turn-ends : (X : Type 0) (why : Failure) (key : List ℕ) → Opens {X = X} (sealed u (slot_nonce (at % 2)) (head 75 at row.number)) row.offset 48 middle after (Err why) key
       → (changes after ≡ changes before) × OfShown sealed levels rows root before after (λ t. Fails why)
   turn-ends X (Refused why) key o =
-      (ap changes o.1.was_read ∙ changes-got offset o.1.part middle ∙ same, λ first last t f s. turn-opens o.1 first last t f s)
+      (ap changes o.1.was_read ∙ changes-got row.offset o.1.part middle ∙ same, λ first last t f s. turn-opens o.1 first last t f s)
   turn-ends X Device key o = (ap changes o ∙ same, λ first last t f s. tt)
   turn-ends X Memory key o = absurd o
   turn-ends X Stopped key o = absurd o
@@ -130,6 +129,6 @@ fails_ends Stopped holds f = absurd f
 
 -- Where the row of a path node says that it has no key, the place holds nothing.
 pub no_row : (sealed : Cipher) (levels place g at : ℕ) (rows : Rows) (root : List ℕ) (before middle : List Event) → g < levels → place < 2 ^ levels → at ≡ (2 ^ levels + place) / 2 ^ (levels - 1 - g)
-    → key_row rows.keys at ≡ KeyRows.NoKey → OfShown sealed levels rows root before middle (λ t. content_of (place_in levels place t) ≡ None)
+    → key_row rows.keys at ≡ None → OfShown sealed levels rows root before middle (λ t. content_of (place_in levels place t) ≡ None)
 no_row sealed levels place g at rows root before middle lg lp e row first last t f s =
     (reads_shown sealed levels (held first before) rows t s.shows place lp).2 (levels - 1 - g) (omega arith) (ap (key_row rows.keys) (sym e) ∙ row)

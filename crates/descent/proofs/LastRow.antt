@@ -1,10 +1,10 @@
 -- The last of the siblings along a path, that of the place itself.
-use Rattle.std.proofs.Common.{◌≡◌, ℕ, suc, ◌+◌, ◌-◌, ◌/◌, ◌^◌, ◌<◌, ◌≤◌, List, length, set, Ok, Err, Result, sym, ap, ◌∙◌, arith}
+use Rattle.std.proofs.Common.{◌≡◌, ℕ, suc, ◌+◌, ◌-◌, ◌/◌, ◌^◌, ◌<◌, ◌≤◌, List, length, set, Ok, Err, Option, Result, sym, ap, ◌∙◌, arith}
 use Rattle.tree.specs.Nodes.{sibling_of}
 use Rattle.forgetting.specs.Climb.{sibling_key}
 use Rattle.change.specs.Coded.{Cipher}
 use Rattle.change.specs.Nodes.{key_in, sibling_in}
-use Rattle.change.specs.declared.node.Node.{Node}
+use Rattle.change.specs.declared.node.NodeKey.{NodeKey}
 use Rattle.index.specs.declared.row.KeyRow.{KeyRow}
 use Rattle.index.specs.Rows.{key_row}
 use Rattle.index.specs.Noted.{Rows}
@@ -18,8 +18,8 @@ use Rattle.descent.proofs.Down.{TextsApart, sibling_hangs}
 use Rattle.descent.proofs.Rows.{opened_row, ended_row}
 use Rattle.descent.proofs.Beside.{one_more}
 
-module _ (sealed : Cipher) (long : Marks16 sealed) (apart : TextsApart sealed) (levels place G at : ℕ) (rows : Rows) (root : List ℕ) (before middle after : List Event) (u : List ℕ) (lu : length u ≡ 32) (nodes : List Node) (node : Node)
-    (end : suc G ≡ levels) (lp : place < 2 ^ levels) (ll : levels ≤ length nodes) (is_at : at ≡ sibling_of (2 ^ levels + place)) (row : KeyRow) (is_row : key_row rows.keys at ≡ row) (same : changes middle ≡ changes before)
+module _ (sealed : Cipher) (long : Marks16 sealed) (apart : TextsApart sealed) (levels place G at : ℕ) (rows : Rows) (root : List ℕ) (before middle after : List Event) (u : List ℕ) (lu : length u ≡ 32) (nodes : List (Option NodeKey)) (node : Option NodeKey)
+    (end : suc G ≡ levels) (lp : place < 2 ^ levels) (ll : levels ≤ length nodes) (is_at : at ≡ sibling_of (2 ^ levels + place)) (row : Option KeyRow) (is_row : key_row rows.keys at ≡ row) (same : changes middle ≡ changes before)
     (above : OfShown sealed levels rows root before middle (KeyAt u G (place / 2 ^ (levels - G))))
     (others : OfShown sealed levels rows root before middle (λ t. (h : ℕ) → levels - G ≤ h → h < levels → sibling_in nodes h ≡ sibling_key levels place h t)) where
   lg : G < levels

@@ -1,2 +1,3 @@
+pub mod Failures
 pub mod Opened
 pub mod Path

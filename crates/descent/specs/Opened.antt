@@ -6,7 +6,6 @@ use Rattle.records.specs.Format.{head, key_tag}
 use Rattle.forgetting.specs.Change.{Numbered}
 use Rattle.change.specs.Coded.{Cipher}
 use Rattle.index.specs.declared.row.KeyRow.{KeyRow}
-use Rattle.index.specs.declared.row.KeyRow.TheVariants.{NoKey, Sealed}
 use Rattle.devices.specs.Events.{Event, got}
 use Rattle.descent.specs.declared.failure.Failure.{Failure}
 use Rattle.descent.specs.declared.failure.Failure.TheVariants.{Refused, Memory, Device, Stopped}
@@ -38,14 +37,14 @@ pub record KeyOpened (seals : List ℕ → List ℕ) (number offset : ℕ) (befo
   pub was_read : after ≡ got offset (seals bytes) ∷ before
 
 -- The key that a row of the index says a node has: none, and nothing was read; or that one, opened.
-abbrev pub OpensRow : {X : Type 0} → Cipher → (at : ℕ) → KeyRow → (above : List ℕ) (before after : List Event) → Result X Failure → Option Numbered → Type 0
-OpensRow sealed at NoKey above before after (Ok _) key = (after ≡ before) × (key ≡ None)
-OpensRow sealed at NoKey above before after (Err why) key = ⊥
-OpensRow sealed at (Sealed number under offset) above before after (Ok _) key = KeyOpened (key_seals sealed at number above) number offset before after key
-OpensRow sealed at (Sealed number under offset) above before after (Err why) key = Opens {X = Unit {0}} (key_seals sealed at number above) offset 48 before after (Err why) []
+abbrev pub OpensRow : {X : Type 0} → Cipher → (at : ℕ) → Option KeyRow → (above : List ℕ) (before after : List Event) → Result X Failure → Option Numbered → Type 0
+OpensRow sealed at None above before after (Ok _) key = (after ≡ before) × (key ≡ None)
+OpensRow sealed at None above before after (Err why) key = ⊥
+OpensRow sealed at (Some row) above before after (Ok _) key = KeyOpened (key_seals sealed at row.number above) row.number row.offset before after key
+OpensRow sealed at (Some row) above before after (Err why) key = Opens {X = Unit {0}} (key_seals sealed at row.number above) row.offset 48 before after (Err why) []
 
 -- From a node's key to that of a node on it, as far as it has one; else the key stays.
-abbrev pub Follows : {X : Type 0} → Cipher → (at : ℕ) → KeyRow → (above : List ℕ) (before after : List Event) → Result X Failure → (key : List ℕ) → Type 0
-Follows sealed at NoKey above before after (Ok _) key = (after ≡ before) × (key ≡ above)
-Follows sealed at NoKey above before after (Err why) key = ⊥
-Follows sealed at (Sealed number under offset) above before after r key = Opens (key_seals sealed at number above) offset 48 before after r key
+abbrev pub Follows : {X : Type 0} → Cipher → (at : ℕ) → Option KeyRow → (above : List ℕ) (before after : List Event) → Result X Failure → (key : List ℕ) → Type 0
+Follows sealed at None above before after (Ok _) key = (after ≡ before) × (key ≡ above)
+Follows sealed at None above before after (Err why) key = ⊥
+Follows sealed at (Some row) above before after r key = Opens (key_seals sealed at row.number above) row.offset 48 before after r key

@@ -5,7 +5,7 @@ use Rattle.forgetting.specs.Tree.{Tree, key_of, place_in, content_of}
 use Rattle.forgetting.specs.Change.{Numbered}
 use Rattle.change.specs.Coded.{Cipher}
 use Rattle.change.specs.Outcome.{Siblings}
-use Rattle.change.specs.declared.node.Node.{Node}
+use Rattle.change.specs.declared.node.NodeKey.{NodeKey}
 use Rattle.index.specs.Noted.{Rows}
 use Rattle.shown.specs.Shown.{Shows, Counts}
 use Rattle.devices.specs.Events.{Event, held, Faithful}
@@ -64,6 +64,6 @@ Descends levels place (Ok _) key t = KeyAt key levels place t
 Descends levels place (Err why) key t = Ends why (content_of (place_in levels place t))
 
 -- Down to a place, with the keys beside the path: those that the siblings have in the tree; or why not.
-abbrev pub Collects : {X : Type 0} → (levels place : ℕ) → Result X Failure → (siblings : List Node) → Tree Numbered (List ℕ) → Type 0
+abbrev pub Collects : {X : Type 0} → (levels place : ℕ) → Result X Failure → (siblings : List (Option NodeKey)) → Tree Numbered (List ℕ) → Type 0
 Collects levels place (Ok _) siblings t = Siblings levels place t siblings
 Collects levels place (Err why) siblings t = Fails why

@@ -5,3 +5,4 @@ pub mod failure;
 pub mod part;
 pub mod path;
 pub mod sibling;
+pub mod source;

@@ -7,135 +7,103 @@ ghost use Rattle.descent.specs.Opened.{OpensRow, Follows};
 ghost use Rattle.descent.specs.Path.{OfShown, Descends, Collects, StillRuns};
 
 use crate::failure::Failure;
-use crate::part::{open_key, step_down};
-use crate::sibling::{clear, hold};
-use change::node::Node;
+use crate::sibling::hold;
+use crate::source::Source;
+use change::node::{NodeKey, clear};
 use cipher::sealing_trait::Sealing;
 use devices::medium::Medium;
 use index::Index;
 use index::row::KeyRow;
 use sealing::key::Key;
 use tree::answer::Refusal;
+use tree::leaf::Leaf;
 use tree::node::NodeId;
-use tree::numbers::places;
 
-// From the root's key to that of a place's node, which takes its place.
-pub fn descend<S: Sealing, M: Medium>(
-    cipher: &mut S,
-    medium: &mut M,
-    index: &Index,
-    levels: u32,
-    place: u32,
-    key: &mut Key,
-    part: &mut [u8; 48],
-) -> Result<(), Failure>
-    requires { (levels ≤ 19) × (place < 2 ^ levels) }
-    ensures same { changes (M.log medium.new) ≡ changes (M.log medium.old) }
-    ensures down { OfShown S.sealed levels (rows_of index.now) key.old.bytes (M.log medium.old) (M.log medium.new) (Descends levels place result key.new.bytes) }
-{
-    let node = NodeId {
-        number: places(levels) + place,
-    };
-    for g in 0..levels {
-        let on_path = node.ancestor(levels - 1 - g);
-        let KeyRow::Sealed { number, offset, .. } = index.key(on_path.number) else {
-            return Err(Failure::Refused(Refusal::Nothing));
-        };
-        step_down(cipher, medium, on_path, number, offset, key, part)?;
+impl<S: Sealing, M: Medium> Source<S, M> {
+    // From the root's key to that of a place's node, which takes its place.
+    pub fn descend(
+        &mut self,
+        index: &Index,
+        leaf: Leaf,
+        key: &mut Key,
+        part: &mut [u8; 48],
+    ) -> Result<(), Failure>
+        ensures same { changes (M.log self.new.medium) ≡ changes (M.log self.old.medium) }
+        ensures down { OfShown S.sealed leaf.levels (rows_of index.now) key.old.bytes (M.log self.old.medium) (M.log self.new.medium) (Descends leaf.levels leaf.place result key.new.bytes) }
+    {
+        let node = leaf.node();
+        // Counted up: g is how many levels the node that was reached has above it, and what is known of it is said by g.
+        for g in 0..leaf.levels {
+            let on_path = node.ancestor(leaf.levels - 1 - g);
+            let row = index.key(on_path.number).ok_or(Refusal::Nothing)?;
+            self.step_down(on_path, row, key, part)?;
+        }
+        Ok(())
     }
-    Ok(())
-}
 
-// The key that a node has by its row, opened under the key of the node above.
-fn open_row<S: Sealing, M: Medium>(
-    cipher: &mut S,
-    medium: &mut M,
-    node: NodeId,
-    row: KeyRow,
-    above: &Key,
-    part: &mut [u8; 48],
-    held: &mut Node,
-) -> Result<(), Failure>
-    ensures { OpensRow S.sealed node.number row above.now.bytes (M.log medium.old) (M.log medium.new) result (key_in held.new) }
-{
-    match row {
-        KeyRow::NoKey => clear(held),
-        KeyRow::Sealed { number, offset, .. } => {
-            open_key(cipher, medium, node, number, offset, above, part)?;
-            hold(held, number, part);
+    // The key that a node has by its row, opened under the key of the node above.
+    fn open_row(
+        &mut self,
+        node: NodeId,
+        row: Option<KeyRow>,
+        above: &Key,
+        part: &mut [u8; 48],
+        held: &mut Option<NodeKey>,
+    ) -> Result<(), Failure>
+        ensures { OpensRow S.sealed node.number row above.now.bytes (M.log self.old.medium) (M.log self.new.medium) result (key_in held.new) }
+    {
+        match row {
+            None => clear(held),
+            Some(row) => {
+                self.open_key(node, row, above, part)?;
+                hold(held, row.number, part);
+            }
+        }
+        Ok(())
+    }
+
+    // From a node's key to that of a node on it, as far as it has one.
+    fn follow(
+        &mut self,
+        node: NodeId,
+        row: Option<KeyRow>,
+        key: &mut Key,
+        part: &mut [u8; 48],
+    ) -> Result<(), Failure>
+        ensures { Follows S.sealed node.number row key.old.bytes (M.log self.old.medium) (M.log self.new.medium) result key.new.bytes }
+    {
+        match row {
+            None => Ok(()),
+            Some(row) => self.step_down(node, row, key, part),
         }
     }
-    Ok(())
-}
 
-// From a node's key to that of a node on it, as far as it has one.
-fn follow<S: Sealing, M: Medium>(
-    cipher: &mut S,
-    medium: &mut M,
-    node: NodeId,
-    row: KeyRow,
-    key: &mut Key,
-    part: &mut [u8; 48],
-) -> Result<(), Failure>
-    ensures { Follows S.sealed node.number row key.old.bytes (M.log medium.old) (M.log medium.new) result key.new.bytes }
-{
-    match row {
-        KeyRow::NoKey => Ok(()),
-        KeyRow::Sealed { number, offset, .. } => {
-            step_down(cipher, medium, node, number, offset, key, part)
+    // The keys beside the path to a place, from the place up, opened on the way down from the root's key, which is lost on the way.
+    pub fn collect(
+        &mut self,
+        index: &Index,
+        leaf: Leaf,
+        key: &mut Key,
+        part: &mut [u8; 48],
+        siblings: &mut [Option<NodeKey>],
+    ) -> Result<(), Failure>
+        requires { (1 ≤ leaf.levels) × (leaf.levels ≤ length siblings.old) }
+        ensures same { changes (M.log self.new.medium) ≡ changes (M.log self.old.medium) }
+        ensures running { StillRuns result }
+        ensures all { OfShown S.sealed leaf.levels (rows_of index.now) key.old.bytes (M.log self.old.medium) (M.log self.new.medium) (Collects leaf.levels leaf.place result siblings.new) }
+    {
+        let node = leaf.node();
+        // Counted up, as above.
+        for g in 0..leaf.levels - 1 {
+            let h = leaf.levels - 1 - g;
+            let on_path = node.ancestor(h);
+            let beside = on_path.sibling();
+            let row = index.key(beside.number);
+            self.open_row(beside, row, key, part, &mut siblings[h as usize])?;
+            self.follow(on_path, index.key(on_path.number), key, part)?;
         }
+        let last = node.sibling();
+        let row = index.key(last.number);
+        self.open_row(last, row, key, part, &mut siblings[0])
     }
-}
-
-// The keys beside the path to a place, from the place up, opened on the way down from the root's key, which is lost on the way.
-pub fn collect<S: Sealing, M: Medium>(
-    cipher: &mut S,
-    medium: &mut M,
-    index: &Index,
-    levels: u32,
-    place: u32,
-    key: &mut Key,
-    part: &mut [u8; 48],
-    siblings: &mut [Node],
-) -> Result<(), Failure>
-    requires { (1 ≤ levels) × ((levels ≤ 19) × ((place < 2 ^ levels) × (levels ≤ length siblings.old))) }
-    ensures same { changes (M.log medium.new) ≡ changes (M.log medium.old) }
-    ensures running { StillRuns result }
-    ensures all { OfShown S.sealed levels (rows_of index.now) key.old.bytes (M.log medium.old) (M.log medium.new) (Collects levels place result siblings.new) }
-{
-    let node = NodeId {
-        number: places(levels) + place,
-    };
-    for g in 0..levels - 1 {
-        let h = levels - 1 - g;
-        let on_path = node.ancestor(h);
-        let beside = on_path.sibling();
-        open_row(
-            cipher,
-            medium,
-            beside,
-            index.key(beside.number),
-            key,
-            part,
-            &mut siblings[h as usize],
-        )?;
-        follow(
-            cipher,
-            medium,
-            on_path,
-            index.key(on_path.number),
-            key,
-            part,
-        )?;
-    }
-    let last = node.sibling();
-    open_row(
-        cipher,
-        medium,
-        last,
-        index.key(last.number),
-        key,
-        part,
-        &mut siblings[0],
-    )
 }

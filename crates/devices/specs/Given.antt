@@ -1,9 +1,7 @@
 -- What a chip was given.
-use Rattle.std.specs.Prelude.{◌≡◌, ℕ, ◌⊎◌, List, ◌∷◌, length}
+use Rattle.std.specs.Prelude.{◌≡◌, ℕ, ◌⊎◌, List, ◌∷◌, length, Ok, Err, Result}
 use Rattle.forgetting.specs.Change.{Numbered}
 use Rattle.devices.specs.Events.{Event, changes}
-use Rattle.devices.specs.declared.chip.Replaced.{Replaced}
-use Rattle.devices.specs.declared.chip.Replaced.TheVariants.{Done, Failed}
 
 -- A key with its number, and when: how many changes had been asked of the medium before.
 pub record Given : Type 0 where
@@ -15,7 +13,7 @@ abbrev pub given_now : (number : ℕ) (bytes : List ℕ) → List Event → Give
 given_now number bytes log = record { key = record { number = number; bytes = bytes }; after = length (changes log) }
 
 -- WHAT GIVING A CHIP A KEY COMES TO. Done: it holds the new key and no other. Failed: the old one or the new one, never both, nor any other. Either way it was asked once more.
-abbrev pub Gives : {C : Type 0} → (holds : C → Numbered) (given : C → List Given) → C → Given → Replaced C → Type 0
-Gives holds given before new (Done after) = (holds after ≡ new.key) × (given after ≡ new ∷ given before)
-Gives holds given before new (Failed after) =
+abbrev pub Gives : {C X E : Type 0} → (holds : C → Numbered) (given : C → List Given) (before : C) → Given → Result X E → (after : C) → Type 0
+Gives holds given before new (Ok _) after = (holds after ≡ new.key) × (given after ≡ new ∷ given before)
+Gives holds given before new (Err _) after =
     ((holds after ≡ holds before) ⊎ (holds after ≡ new.key)) × (given after ≡ new ∷ given before)

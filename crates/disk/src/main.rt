@@ -2,7 +2,7 @@
 #![tactic(auto)]
 
 use anyhow::anyhow;
-use devices::chip::{Chip, Replaced};
+use devices::chip::Chip;
 use devices::fault::Fault;
 use devices::medium::Medium;
 use files::chip::FileChip;
@@ -10,11 +10,8 @@ use files::medium::FileMedium;
 use sealing::key::Key;
 use std::fs;
 
-fn done(answer: Result<(), Fault>) -> anyhow::Result<()> {
-    match answer {
-        Ok(()) => Ok(()),
-        Err(_) => Err(anyhow!("the medium failed")),
-    }
+fn failed(_fault: Fault) -> anyhow::Error {
+    anyhow!("the medium failed")
 }
 
 fn length(medium: &FileMedium) -> u64 {
@@ -23,18 +20,18 @@ fn length(medium: &FileMedium) -> u64 {
 
 fn write_medium(rt: &HostRuntime) -> anyhow::Result<()> {
     let mut medium = FileMedium::open(rt, "medium")?;
-    done(medium.append(b"abc"))?;
-    done(medium.sync())?;
-    done(medium.append(b"defg"))?;
+    medium.append(b"abc").map_err(failed)?;
+    medium.sync().map_err(failed)?;
+    medium.append(b"defg").map_err(failed)?;
     let mut part = [0; 3];
-    done(medium.read_at(2, &mut part))?;
+    medium.read_at(2, &mut part).map_err(failed)?;
     println!(rt; "read {part:?} of {}", length(&medium))?;
     let past = medium.read_at(5, &mut part).is_err();
     let beyond = medium.read_at(8, &mut part[0..0]).is_err();
     println!(rt; "past the end: {past} {beyond}")?;
-    done(medium.cut(5))?;
-    done(medium.cut(9))?;
-    done(medium.sync())?;
+    medium.cut(5).map_err(failed)?;
+    medium.cut(9).map_err(failed)?;
+    medium.sync().map_err(failed)?;
     println!(rt; "cut to {}", length(&medium))?;
     Ok(())
 }
@@ -42,17 +39,17 @@ fn write_medium(rt: &HostRuntime) -> anyhow::Result<()> {
 fn read_medium(rt: &HostRuntime) -> anyhow::Result<()> {
     let mut medium = FileMedium::open(rt, "medium")?;
     let mut all = [0; 5];
-    done(medium.read_at(0, &mut all))?;
+    medium.read_at(0, &mut all).map_err(failed)?;
     println!(rt; "opened again: {all:?}")?;
     Ok(())
 }
 
-fn replace(chip: FileChip, number: u32, medium: &FileMedium) -> Replaced<FileChip> {
+fn replace(chip: &mut FileChip, number: u32, medium: &FileMedium) -> Result<(), Fault> {
     let mut bytes = [0; 32];
     bytes[0] = 5;
     bytes[31] = 9;
     let mut key = Key::take(&mut bytes);
-    let replaced = chip.replaced(&key, number, medium);
+    let replaced = chip.replace(&key, number, medium);
     key.wipe();
     replaced
 }
@@ -70,12 +67,11 @@ fn show_chip(rt: &HostRuntime) -> anyhow::Result<()> {
 
 fn write_chip(rt: &HostRuntime) -> anyhow::Result<()> {
     let medium = FileMedium::open(rt, "medium")?;
-    let Ok(chip) = FileChip::open(rt, "chip") else {
-        return Err(anyhow!("the chip is not fresh"));
-    };
-    match replace(chip, 258, &medium) {
-        Replaced::Done(chip) => println!(rt; "replaced, number {}", chip.number())?,
-        Replaced::Failed(_) => println!(rt; "not replaced")?,
+    let opened = FileChip::open(rt, "chip");
+    let mut chip = opened.map_err(|_| anyhow!("the chip is not fresh"))?;
+    match replace(&mut chip, 258, &medium) {
+        Ok(()) => println!(rt; "replaced, number {}", chip.number())?,
+        Err(_) => println!(rt; "not replaced")?,
     }
     let file = fs::read(rt, "chip")?;
     println!(rt; "file {file:?}")?;
@@ -91,7 +87,7 @@ fn spoil_chip(rt: &HostRuntime) -> anyhow::Result<()> {
     show_chip(rt)?;
     let mut bytes = [0; 36];
     bytes[9] = 1;
-    fs::write(rt, "chip", &bytes[0..36])?;
+    fs::write(rt, "chip", &bytes)?;
     show_chip(rt)?;
     fs::remove_file(rt, "chip")?;
     show_chip(rt)

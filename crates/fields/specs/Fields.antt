@@ -1,5 +1,6 @@
 -- What a word comes to as a field of a command.
-use Rattle.std.specs.Prelude.{◌≡◌, ℕ, Bool, false, cond, List, [], ◌∷◌, length, Some, None, Ok, Err, Option, Result, ◌==◌}
+use Rattle.std.specs.Prelude.{◌≡◌, ℕ, Bool, false, cond, List, [], ◌∷◌, length, Some, Ok, Err, Option, Result, ◌==◌}
+use Rattle.std.specs.Option.{ok_or}
 use Rattle.hex_text.specs.Hex.{decode, encode}
 use Rattle.words.specs.Numbers.{number}
 use Rattle.fields.specs.declared.field.Field.{Field}
@@ -18,14 +19,9 @@ dash (c ∷ d ∷ word) = false
 abbrev pub byte_string : List ℕ → Option (List ℕ)
 byte_string word = cond (dash word) (Some []) (decode word)
 
--- A value, or else a complaint.
-abbrev pub or_else : {X : Type 0} → Malformed → Option X → Result X Malformed
-or_else why (Some x) = Ok x
-or_else why None = Err why
-
 -- A byte string of any length.
 unfoldable pub bytes_of : Field → List ℕ → Result (List ℕ) Malformed
-bytes_of field word = or_else (NotHex field) (byte_string word)
+bytes_of field word = ok_or (byte_string word) (NotHex field)
 
 -- A byte string of one length.
 abbrev pub sized : ℕ → Field → Result (List ℕ) Malformed → Result (List ℕ) Malformed
@@ -37,7 +33,7 @@ fixed_of n field word = sized n field (bytes_of field word)
 
 -- A number of 32 bits.
 unfoldable pub number_of : Field → List ℕ → Result ℕ Malformed
-number_of field word = or_else (NotACounter field) (number word)
+number_of field word = ok_or (number word) (NotACounter field)
 
 -- That a failure is what is said. Memory may fail.
 abbrev pub Complains : {Y : Type 0} → Failure → Result Y Malformed → Type 0

@@ -22,10 +22,7 @@ fn string_of(heap: Global, word: &[u8]) -> Result<Option<Vec<u8>>, AllocError>
 pub fn byte_string(heap: Global, field: Field, word: &[u8]) -> Result<Vec<u8>, Failure>
     ensures { Reads vec_items result (bytes_of field word.now) }
 {
-    match string_of(heap, word)? {
-        Some(bytes) => Ok(bytes),
-        None => Err(Failure::Malformed(Malformed::NotHex { field })),
-    }
+    Ok(string_of(heap, word)?.ok_or(Malformed::NotHex { field })?)
 }
 
 // A byte string of one length.
@@ -33,18 +30,14 @@ pub fn fixed<const N: usize>(heap: Global, field: Field, word: &[u8]) -> Result<
     ensures { Reads (λ bytes. bytes) result (fixed_of N field word.now) }
 {
     let bytes = byte_string(heap, field, word)?;
-    match <[u8; N]>::try_from(bytes.as_slice()) {
-        Ok(array) => Ok(array),
-        Err(_) => Err(Failure::Malformed(Malformed::Length { field, expected: N })),
-    }
+    let otherwise = Malformed::Length { field, expected: N };
+    let array = <[u8; N]>::try_from(bytes.as_slice()).or(Err(otherwise))?;
+    Ok(array)
 }
 
 // A number of 32 bits.
 pub fn number(field: Field, word: &[u8]) -> Result<u32, Failure>
     ensures { Reads (λ n. n) result (number_of field word.now) }
 {
-    match counter(word) {
-        Some(number) => Ok(number),
-        None => Err(Failure::Malformed(Malformed::NotACounter { field })),
-    }
+    Ok(counter(word).ok_or(Malformed::NotACounter { field })?)
 }

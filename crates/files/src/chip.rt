@@ -1,17 +1,17 @@
 // A chip on a file.
 ghost use Rattle.std.specs.Prelude.{◌≡◌, [], replicate, IfOk};
 ghost use Rattle.slot.specs.Held.{held};
-ghost use Rattle.trace.specs.Asked.{givens};
 
+use crate::directory::if_found;
 use crate::image::Image;
 use crate::unopened::Unopened;
-use devices::chip::{Chip, Replaced};
+use devices::chip::Chip;
+use devices::fault::Fault;
 use devices::medium::Medium;
 use sealing::key::Key;
 use slot::Slot;
 use std::alloc::AllocError;
 use std::fs;
-use std::io::ErrorKind;
 use trace::ledger::Ledger;
 
 #[derive(Drop)]
@@ -24,23 +24,10 @@ pub struct FileChip {
     ledger: Ledger,
 }
 
-fn remove(rt: &HostRuntime, path: &str) -> Result<(), Unopened> {
-    match fs::remove_file(rt, path) {
-        Ok(()) => Ok(()),
-        Err(why) => {
-            if why.kind() == ErrorKind::NotFound {
-                Ok(())
-            } else {
-                Err(Unopened::Unreadable)
-            }
-        }
-    }
-}
-
 impl FileChip {
     // A chip of no file yet.
     fn fresh(rt: &HostRuntime, path: &str) -> Result<FileChip, AllocError>
-        ensures { IfOk result (λ c. (held c.slot ≡ record { number = 0; bytes = replicate 32 0 }) × (givens c.ledger.keys ≡ [])) }
+        ensures { IfOk result (λ c. (held c.slot ≡ record { number = 0; bytes = replicate 32 0 }) × (c.ledger.keys ≡ [])) }
     {
         let heap = rt.alloc();
         let mut beside = String::from_str(heap, path)?;
@@ -57,10 +44,10 @@ impl FileChip {
 
     // The chip of the file at a path; where there is none, a chip that was never given a key. What a replacing left beside it is removed.
     pub fn open(rt: &HostRuntime, path: &str) -> Result<FileChip, Unopened>
-        ensures { IfOk result (λ c. givens c.ledger.keys ≡ []) }
+        ensures { IfOk result (λ c. c.ledger.keys ≡ []) }
     {
         let mut chip = FileChip::fresh(rt, path)?;
-        remove(rt, chip.beside.as_str())?;
+        if_found(fs::remove_file(rt, chip.beside.as_str()))?;
         chip.image.load(rt, path, &mut chip.slot)?;
         Ok(chip)
     }
@@ -69,7 +56,7 @@ impl FileChip {
 impl Chip for FileChip {
     ghost holds = { λ c. held c.slot };
 
-    ghost given = { λ c. givens c.ledger.keys };
+    ghost given = { λ c. c.ledger.keys };
 
     fn number(&self) -> u32 {
         self.slot.number()
@@ -79,20 +66,13 @@ impl Chip for FileChip {
         self.slot.key()
     }
 
-    fn replaced<M: Medium>(mut self, key: &Key, number: u32, medium: &M) -> Replaced<FileChip> {
+    fn replace<M: Medium>(&mut self, key: &Key, number: u32, medium: &M) -> Result<(), Fault> {
         let ledger = self.ledger.given(number, key, medium);
         self.ledger = ledger;
-        let written = self.image.save(
-            &self.rt,
-            self.path.as_str(),
-            self.beside.as_str(),
-            number,
-            key,
-        );
-        if written.is_err() {
-            return Replaced::Failed(self);
-        }
+        let path = self.path.as_str();
+        let beside = self.beside.as_str();
+        self.image.save(&self.rt, path, beside, number, key)?;
         self.slot.set(key, number);
-        Replaced::Done(self)
+        Ok(())
     }
 }

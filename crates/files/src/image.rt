@@ -2,13 +2,13 @@
 ghost use Rattle.std.specs.Prelude.{◌≡◌, ◌++◌, replicate};
 ghost use Rattle.files.specs.Image.{number_bytes, number_in};
 
-use crate::directory::sync_above;
+use crate::directory::{if_found, sync_above};
 use crate::unopened::Unopened;
 use sealing::key::Key;
 use slot::Slot;
 use std::alloc::{AllocError, Global};
 use std::fs::File;
-use std::io::{ErrorKind, Read, Write};
+use std::io::{Read, Write};
 use std::{fs, io};
 
 // What goes to the file and comes from it; zeros otherwise.
@@ -21,49 +21,38 @@ pub(crate) struct Image {
 fn encode(bytes: &mut [u8; 36], number: u32, key: &Key)
     ensures { bytes.new ≡ number_bytes number ++ key.now.bytes }
 {
-    bytes[0..4].copy_from_slice(&number.to_be_bytes());
-    bytes[4..36].copy_from_slice(key.as_bytes());
+    let (number_part, key_part) = bytes.split_at_mut(4);
+    number_part.copy_from_slice(&number.to_be_bytes());
+    key_part.copy_from_slice(key.as_bytes());
 }
 
 fn number_in(bytes: &[u8; 36]) -> u32
     ensures { result ≡ number_in bytes.now }
 {
-    u32::from_be_bytes([bytes[0], bytes[1], bytes[2], bytes[3]])
+    let [a, b, c, d, ..] = *bytes;
+    u32::from_be_bytes([a, b, c, d])
 }
 
 // A key with the number 0 is refused, but for zeros.
 fn decode(bytes: &[u8; 36], slot: &mut Slot) -> Result<(), Unopened> {
     let number = number_in(bytes);
-    let key = &bytes[4..36];
-    let zeros = [0; 32];
-    if number == 0 && key != &zeros[0..32] {
+    let (_, key) = bytes.split_at(4);
+    if number == 0 && key.iter().any(|byte| *byte != 0) {
         return Err(Unopened::KeyWithoutNumber);
     }
     slot.load(key, number);
     Ok(())
 }
 
-// Whether there is a file at a path, whose bytes are then read.
-fn read(rt: &HostRuntime, path: &str, bytes: &mut [u8; 36]) -> Result<bool, Unopened> {
-    let mut file = match File::open(rt, path) {
-        Ok(file) => file,
-        Err(why) => {
-            if why.kind() == ErrorKind::NotFound {
-                return Ok(false);
-            }
-            return Err(Unopened::Unreadable);
-        }
+// The file at a path, if there is one; it has the length of an image.
+fn open(rt: &HostRuntime, path: &str) -> Result<Option<File>, Unopened> {
+    let Some(file) = if_found(File::open(rt, path))? else {
+        return Ok(None);
     };
-    let Ok(about) = file.metadata() else {
-        return Err(Unopened::Unreadable);
-    };
-    if about.len() != 36 {
+    if file.metadata()?.len() != 36 {
         return Err(Unopened::Length);
     }
-    if file.read_exact(bytes).is_err() {
-        return Err(Unopened::Unreadable);
-    }
-    Ok(true)
+    Ok(Some(file))
 }
 
 // The key of the file at a path, with its number, into a slot, which stays as it is where there is no file.
@@ -73,7 +62,8 @@ fn fetch(
     bytes: &mut [u8; 36],
     slot: &mut Slot,
 ) -> Result<(), Unopened> {
-    if read(rt, path, bytes)? {
+    if let Some(mut file) = open(rt, path)? {
+        file.read_exact(bytes)?;
         decode(bytes, slot)?;
     }
     Ok(())
@@ -115,7 +105,7 @@ impl Image {
         key: &Key,
     ) -> io::Result<()> {
         encode(&mut self.bytes, number, key);
-        let written = write(rt, path, beside, &mut self.bytes);
+        let written = write(rt, path, beside, &self.bytes);
         *self.bytes = [0; 36];
         written
     }

@@ -1,6 +1,5 @@
 // A medium on a file.
 ghost use Rattle.std.specs.Prelude.{◌≡◌, true, false, [], IfOk};
-ghost use Rattle.trace.specs.Asked.{events};
 
 use crate::directory::sync_above;
 use devices::fault::Fault;
@@ -21,7 +20,7 @@ pub struct FileMedium {
 impl FileMedium {
     // The file at a path, which is made where there is none.
     pub fn open(rt: &HostRuntime, path: &str) -> io::Result<FileMedium>
-        ensures { IfOk result (λ m. (events m.trace.asked ≡ []) × (m.failed ≡ false)) }
+        ensures { IfOk result (λ m. (m.trace.asked ≡ []) × (m.failed ≡ false)) }
     {
         let file = OpenOptions::new()
             .read(true)
@@ -38,79 +37,64 @@ impl FileMedium {
 
     // How many bytes the file has.
     pub fn len(&self) -> Result<u64, Fault> {
-        length_of(&self.file)
+        Ok(self.file.metadata()?.len())
     }
-}
 
-fn length_of(file: &File) -> Result<u64, Fault> {
-    match file.metadata() {
-        Ok(about) => Ok(about.len()),
-        Err(_) => Err(Fault),
+    // Does something to the file, unless something failed before.
+    fn attempt<F: FnOnce(&mut File) -> io::Result<()>>(&mut self, deed: F) -> Result<(), Fault>
+        requires { F.IsAlwaysCallable deed }
+        ensures { self.new.trace ≡ self.old.trace }
+    {
+        if self.failed || deed(&mut self.file).is_err() {
+            self.failed = true;
+            return Err(Fault);
+        }
+        Ok(())
     }
 }
 
 fn read(file: &mut File, offset: u64, buffer: &mut [u8]) -> Result<(), Fault> {
-    if length_of(file)? < offset {
+    if file.metadata()?.len() < offset {
         return Err(Fault);
     }
-    done(file.seek(SeekFrom::Start(offset)))?;
-    done(file.read_exact(buffer))
+    file.seek(SeekFrom::Start(offset))?;
+    file.read_exact(buffer)?;
+    Ok(())
 }
 
 // A file is never made longer by a cut.
-fn shorten(file: &File, length: u64) -> Result<(), Fault> {
-    if length_of(file)? <= length {
+fn shorten(file: &File, length: u64) -> io::Result<()> {
+    if file.metadata()?.len() <= length {
         return Ok(());
     }
-    done(file.set_len(length))
-}
-
-fn done<T: Drop>(answer: io::Result<T>) -> Result<(), Fault> {
-    match answer {
-        Ok(_) => Ok(()),
-        Err(_) => Err(Fault),
-    }
+    file.set_len(length)
 }
 
 impl Medium for FileMedium {
-    ghost log = { λ m. events m.trace.asked };
+    ghost log = { λ m. m.trace.asked };
 
     fn read_at(&mut self, offset: u64, buffer: &mut [u8]) -> Result<(), Fault> {
-        if self.failed || read(&mut self.file, offset, buffer).is_err() {
+        if self.failed {
             return Err(Fault);
         }
-        let asked = self.trace.got(offset, buffer);
-        self.trace = asked;
+        read(&mut self.file, offset, buffer)?;
+        self.trace = self.trace.got(offset, buffer);
         Ok(())
     }
 
     fn append(&mut self, bytes: &[u8]) -> Result<(), Fault> {
-        let asked = self.trace.appended(bytes);
-        self.trace = asked;
-        if self.failed || self.file.write_all(bytes).is_err() {
-            self.failed = true;
-            return Err(Fault);
-        }
-        Ok(())
+        self.trace = self.trace.appended(bytes);
+        self.attempt(|file| file.write_all(bytes))
     }
 
     fn sync(&mut self) -> Result<(), Fault> {
-        if self.failed || self.file.sync_all().is_err() {
-            self.failed = true;
-            return Err(Fault);
-        }
-        let asked = self.trace.synced();
-        self.trace = asked;
+        self.attempt(|file| file.sync_all())?;
+        self.trace = self.trace.synced();
         Ok(())
     }
 
     fn cut(&mut self, length: u64) -> Result<(), Fault> {
-        let asked = self.trace.cut(length);
-        self.trace = asked;
-        if self.failed || shorten(&self.file, length).is_err() {
-            self.failed = true;
-            return Err(Fault);
-        }
-        Ok(())
+        self.trace = self.trace.cut(length);
+        self.attempt(|file| shorten(file, length))
     }
 }

@@ -1,6 +1,7 @@
 // Why a chip's file can't be used.
 use std::alloc::AllocError;
-use std::fmt;
+use std::error::Error;
+use std::{fmt, io};
 
 #[derive(Clone, Copy, PartialEq, Eq, Debug)]
 pub enum Unopened {
@@ -16,6 +17,12 @@ impl From<AllocError> for Unopened {
     }
 }
 
+impl From<io::Error> for Unopened {
+    fn from(_error: io::Error) -> Unopened {
+        Unopened::Unreadable
+    }
+}
+
 impl fmt::Display for Unopened {
     fn fmt<W: fmt::Write>(&self, f: &mut fmt::Formatter<W>) -> fmt::Result {
         f.write_str(match self {
@@ -26,3 +33,5 @@ impl fmt::Display for Unopened {
         })
     }
 }
+
+impl Error for Unopened {}

@@ -1,5 +1,5 @@
 -- Scanning, one record after another.
-use Rattle.std.proofs.Common.{◌≡◌, ℕ, zero, suc, ◌+◌, ◌-◌, ◌^◌, ◌<◌, ◌≤◌, Bool, true, false, cond, ◌&&◌, eqb, ltb, leb, List, [], ◌∷◌, ◌++◌, length, get_or, take, drop, sym, refl, ap, ◌∙◌, subst, arith, Bor}
+use Rattle.std.proofs.Common.{◌≡◌, ℕ, zero, suc, ◌+◌, ◌-◌, ◌^◌, ◌<◌, ◌≤◌, Bool, true, false, cond, ◌&&◌, eqb, ltb, leb, List, [], ◌∷◌, ◌++◌, length, get_or, take, drop, Ok, Err, Result, sym, refl, ap, ◌∙◌, subst, arith, Bor}
 use Rattle.std.proofs.lemmas.List.{length-take-le, length-drop, length-append}
 use Rattle.std.proofs.lemmas.Bool.{cond_both, ltb-false, leb-true, le-leb, and_parts}
 use Rattle.records.specs.Format.{Record, key, content, out, encode}
@@ -7,8 +7,8 @@ use Rattle.records.specs.Decode.{Decoded, one, ends, other, number2, number4, de
 use Rattle.record_laws.specs.Laws.{DecodesEncoded}
 use Rattle.records.specs.Values.{decoded_of, decoded_up_to20}
 use Rattle.records.specs.declared.«record».Record.{Record as Rec}
-use Rattle.records.specs.declared.«record».Decoded.{Decoded as Dec}
-use Rattle.records.specs.declared.«record».Decoded.TheVariants.{One, Ends, Other}
+use Rattle.records.specs.declared.«record».Undecoded.{Undecoded}
+use Rattle.records.specs.declared.«record».Undecoded.TheVariants.{Ends, Other}
 use Rattle.index.specs.Noted.{Rows, noted, note_all, encode_all, if_one, scanned, Short, AllProper}
 
 -- Trees of at most 20 levels.
@@ -154,7 +154,7 @@ module _ (levels : ℕ) (bs : List ℕ) (few : levels ≤ 19) where
   pub decoded_shorter : (r : Record) (rest : List ℕ) → one r rest ≡ decoded_up_to20 levels bs → (length rest < length bs) × Short r
   decoded_shorter r rest e = shorter levels bs r rest (decoded-one r rest e)
 
-  pub decoded_none : (d : Dec) → ((r : Rec) (rest : Bor (List ℕ)) → d ≡ One r rest → ⊥) → decoded_of d ≡ decoded_up_to20 levels bs → (r : Record) (rest : List ℕ) → decoded levels bs ≡ one r rest → ⊥
-  decoded_none (One x y) n e r rest f = n x y refl
-  decoded_none Ends n e r rest f = let u = up_to_20 levels bs few in let z : ◌≡◌ {A = ℕ} 0 1 = cc in omega arith
-  decoded_none Other n e r rest f = let u = up_to_20 levels bs few in let z : ◌≡◌ {A = ℕ} 0 1 = cc in omega arith
+  pub decoded_none : (d : Result (Rec × Bor (List ℕ)) Undecoded) → ((found : Rec × Bor (List ℕ)) → d ≡ Ok found → ⊥) → decoded_of d ≡ decoded_up_to20 levels bs → (r : Record) (rest : List ℕ) → decoded levels bs ≡ one r rest → ⊥
+  decoded_none (Ok found) n e r rest f = n found refl
+  decoded_none (Err Ends) n e r rest f = let u = up_to_20 levels bs few in cc
+  decoded_none (Err Other) n e r rest f = let u = up_to_20 levels bs few in cc

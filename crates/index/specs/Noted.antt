@@ -1,17 +1,15 @@
 -- What noting records makes of the rows.
-use Rattle.std.specs.Prelude.{ℕ, zero, suc, ◌+◌, ◌-◌, ◌^◌, ◌≤◌, List, [], ◌∷◌, ◌++◌, length, vec_items, slice_set}
+use Rattle.std.specs.Prelude.{ℕ, zero, suc, ◌+◌, ◌-◌, ◌^◌, ◌≤◌, List, [], ◌∷◌, ◌++◌, length, Option, Some, None, vec_items, slice_set}
 use Rattle.records.specs.Format.{Record, key, content, out, encode, Proper}
 use Rattle.records.specs.Decode.{Decoded, one, ends, other, decoded}
 use Rattle.index.specs.declared.row.KeyRow.{KeyRow}
-use Rattle.index.specs.declared.row.KeyRow.TheVariants as KeyRows
 use Rattle.index.specs.declared.row.ContentRow.{ContentRow}
-use Rattle.index.specs.declared.row.ContentRow.TheVariants as ContentRows
 use Rattle.index.specs.declared.Index.{Index}
 
 -- The rows of nodes, by their numbers, and those of places.
 pub record Rows : Type 0 where
-  pub keys : List KeyRow
-  pub contents : List ContentRow
+  pub keys : List (Option KeyRow)
+  pub contents : List (Option ContentRow)
 
 abbrev pub rows_of : Index → Rows
 rows_of index = record { keys = vec_items index.keys; contents = vec_items index.contents }
@@ -19,11 +17,11 @@ rows_of index = record { keys = vec_items index.keys; contents = vec_items index
 -- After a record that begins at a byte of the medium. What is sealed begins 13 bytes on in a key's record, 11 bytes on in a content's, and the last 16 bytes of it are its mark.
 abbrev pub noted : (levels at : ℕ) → Record → Rows → Rows
 noted levels at (key node number under sealed) rows =
-    record { keys = slice_set rows.keys node (KeyRows.Sealed number under (at + 13)); contents = rows.contents }
+    record { keys = slice_set rows.keys node (Some (record { number = number; under = under; offset = at + 13 })); contents = rows.contents }
 noted levels at (content node number sealed) rows =
-    record { keys = rows.keys; contents = slice_set rows.contents (node - 2 ^ levels) (ContentRows.Sealed number (length sealed - 16) (at + 11)) }
+    record { keys = rows.keys; contents = slice_set rows.contents (node - 2 ^ levels) (Some (record { number = number; length = length sealed - 16; offset = at + 11 })) }
 noted levels at (out node next) rows =
-    record { keys = slice_set rows.keys node KeyRows.NoKey; contents = slice_set rows.contents (node - 2 ^ levels) ContentRows.NoContent }
+    record { keys = slice_set rows.keys node None; contents = slice_set rows.contents (node - 2 ^ levels) None }
 
 -- After records that stand one after another.
 unfoldable pub note_all : (levels at : ℕ) → List Record → Rows → Rows

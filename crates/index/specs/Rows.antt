@@ -1,17 +1,18 @@
 -- The rows of an index: those of nodes by their numbers, those of places by theirs.
-use Rattle.std.specs.Prelude.{◌≡◌, ℕ, ◌+◌, ◌^◌, List, replicate, slice_index_or}
+use Rattle.std.specs.Prelude.{◌≡◌, ℕ, ◌+◌, ◌^◌, List, Option, None, replicate, slice_index_or}
 use Rattle.index.specs.declared.row.KeyRow.{KeyRow}
-use Rattle.index.specs.declared.row.KeyRow.TheVariants.{NoKey}
 use Rattle.index.specs.declared.row.ContentRow.{ContentRow}
-use Rattle.index.specs.declared.row.ContentRow.TheVariants.{NoContent}
 
 -- Past the last row there is none.
-abbrev pub key_row : List KeyRow → ℕ → KeyRow
-key_row rows n = slice_index_or rows n NoKey
+abbrev pub row_of : {A : Type 0} → List (Option A) → ℕ → Option A
+row_of rows n = slice_index_or rows n None
 
-abbrev pub content_row : List ContentRow → ℕ → ContentRow
-content_row rows p = slice_index_or rows p NoContent
+abbrev pub key_row : List (Option KeyRow) → ℕ → Option KeyRow
+key_row rows n = row_of rows n
+
+abbrev pub content_row : List (Option ContentRow) → ℕ → Option ContentRow
+content_row rows p = row_of rows p
 
 -- No node has a key, and no place a content.
-abbrev pub Empty : (levels : ℕ) → List KeyRow → List ContentRow → Type 0
-Empty levels keys contents = (keys ≡ replicate (2 ^ (levels + 1)) NoKey) × (contents ≡ replicate (2 ^ levels) NoContent)
+abbrev pub Empty : (levels : ℕ) → List (Option KeyRow) → List (Option ContentRow) → Type 0
+Empty levels keys contents = (keys ≡ replicate (2 ^ (levels + 1)) None) × (contents ≡ replicate (2 ^ levels) None)

@@ -3,22 +3,22 @@
 
 ghost use Rattle.std.specs.Prelude.{◌≡◌, ℕ, ◌+◌, ◌-◌, ◌^◌, ◌<◌, ◌≤◌, cond, List, length, replicate, IfOk, vec_len, slice_set};
 ghost use Rattle.records.specs.Values.{record_of};
-ghost use Rattle.index.specs.Rows.{key_row, content_row, Empty};
+ghost use Rattle.index.specs.Rows.{row_of, key_row, content_row, Empty};
 ghost use Rattle.index.specs.Noted.{rows_of, noted, scanned, Short};
 
 use records::decode::decode;
-use records::record::{CONTENT_FRONT, Decoded, KEY_FRONT, MARK, Record};
+use records::record::{CONTENT_FRONT, KEY_FRONT, MARK, Record};
 use row::{ContentRow, KeyRow};
 use std::alloc::{AllocError, Global};
 use tree::numbers::places;
 
 pub mod row;
 
-// A row for each node, by its number, and one for each place.
+// A row for each node, by its number, and one for each place. The levels of the tree stay with who has the index: as a field they would be a second copy, to be kept the same.
 #[derive(Drop)]
 pub struct Index {
-    keys: Vec<KeyRow>,
-    contents: Vec<ContentRow>,
+    keys: Vec<Option<KeyRow>>,
+    contents: Vec<Option<ContentRow>>,
 }
 
 impl Index {
@@ -27,55 +27,39 @@ impl Index {
         requires { levels ≤ 19 }
         ensures { IfOk result (λ index. Empty levels index.keys.items index.contents.items) }
     {
-        let keys = Vec::from_elem(heap, KeyRow::NoKey, places(levels + 1) as usize)?;
-        let contents = Vec::from_elem(heap, ContentRow::NoContent, places(levels) as usize)?;
+        let keys = Vec::from_elem(heap, None, places(levels + 1) as usize)?;
+        let contents = Vec::from_elem(heap, None, places(levels) as usize)?;
         Ok(Index { keys, contents })
     }
 
     // The row of a node's key; none where there is no such node.
-    pub fn key(&self, node: u32) -> KeyRow
+    pub fn key(&self, node: u32) -> Option<KeyRow>
         ensures { result ≡ key_row self.now.keys.items node }
     {
-        let n = node as usize;
-        if n < self.keys.len() {
-            self.keys[n]
-        } else {
-            KeyRow::NoKey
-        }
+        row_at(&self.keys, node)
     }
 
     // The row of a place's content; none where there is no such place.
-    pub fn content(&self, place: u32) -> ContentRow
+    pub fn content(&self, place: u32) -> Option<ContentRow>
         ensures { result ≡ content_row self.now.contents.items place }
     {
-        let p = place as usize;
-        if p < self.contents.len() {
-            self.contents[p]
-        } else {
-            ContentRow::NoContent
-        }
+        row_at(&self.contents, place)
     }
 
     // Another row for a node's key; nothing changes where there is no such node.
-    pub fn set_key(&mut self, node: u32, row: KeyRow)
+    pub fn set_key(&mut self, node: u32, row: Option<KeyRow>)
         ensures keys { self.new.keys.items ≡ slice_set self.old.keys.items node row }
         ensures contents { self.new.contents ≡ self.old.contents }
     {
-        let n = node as usize;
-        if n < self.keys.len() {
-            self.keys[n] = row;
-        }
+        set_row(&mut self.keys, node, row);
     }
 
     // Another row for a place's content; nothing changes where there is no such place.
-    pub fn set_content(&mut self, place: u32, row: ContentRow)
+    pub fn set_content(&mut self, place: u32, row: Option<ContentRow>)
         ensures contents { self.new.contents.items ≡ slice_set self.old.contents.items place row }
         ensures keys { self.new.keys ≡ self.old.keys }
     {
-        let p = place as usize;
-        if p < self.contents.len() {
-            self.contents[p] = row;
-        }
+        set_row(&mut self.contents, place, row);
     }
 
     // Notes a record that begins at the byte `at` of the medium.
@@ -91,11 +75,11 @@ impl Index {
                 sealed: _,
             } => self.set_key(
                 node,
-                KeyRow::Sealed {
+                Some(KeyRow {
                     number,
                     under,
                     offset: at + KEY_FRONT as u64,
-                },
+                }),
             ),
             Record::Content {
                 node,
@@ -103,15 +87,15 @@ impl Index {
                 sealed,
             } => self.set_content(
                 place_of(levels, node),
-                ContentRow::Sealed {
+                Some(ContentRow {
                     number,
                     length: sealed.len().saturating_sub(MARK) as u16,
                     offset: at + CONTENT_FRONT as u64,
-                },
+                }),
             ),
             Record::Out { node, next: _ } => {
-                self.set_key(node, KeyRow::NoKey);
-                self.set_content(place_of(levels, node), ContentRow::NoContent);
+                self.set_key(node, None);
+                self.set_content(place_of(levels, node), None);
             }
         }
     }
@@ -123,11 +107,27 @@ impl Index {
     {
         let mut left = bytes;
         let mut from = at;
-        while let Decoded::One(record, rest) = decode(levels, left) {
+        while let Ok((record, rest)) = decode(levels, left) {
             self.note(levels, from, &record);
             from += (left.len() - rest.len()) as u64;
             left = rest;
         }
+    }
+}
+
+// The row of a number; none past the last.
+fn row_at<T: Copy>(rows: &[Option<T>], n: u32) -> Option<T>
+    ensures { result ≡ row_of rows.now n }
+{
+    rows.get(n as usize).copied().flatten()
+}
+
+// Another row for a number; nothing changes past the last.
+fn set_row<T: Copy>(rows: &mut Vec<Option<T>>, n: u32, row: Option<T>)
+    ensures { rows.new.items ≡ slice_set rows.old.items n row }
+{
+    if let Some(place) = rows.get_mut(n as usize) {
+        *place = row;
     }
 }
 

@@ -1,8 +1,7 @@
 -- What a ledger's fields are to each other after a move more.
-use Rattle.std.proofs.Common.{◌≡◌, ℕ, zero, suc, ◌^◌, ◌<◌, Bool, true, false, List, [], ◌∷◌, ◌++◌, length, get_or, take, set, Some, None, Option, sym, refl, ap, ◌∙◌, subst, le_of_suc-le-suc, not-suc-le-zero, lt-ltb}
+use Rattle.std.proofs.Common.{◌≡◌, ℕ, zero, suc, ◌^◌, ◌<◌, Bool, true, List, [], ◌∷◌, ◌++◌, length, get_or, take, Some, None, Option, sym, refl, ap, ◌∙◌, subst, le_of_suc-le-suc, not-suc-le-zero}
 use Rattle.ledger.specs.declared.moves.Move.{Move}
-use Rattle.ledger.specs.declared.moves.Move.TheVariants.{Put, PutCut, Out, OutCut, Look}
-use Rattle.ledger.specs.Book.{Book, looked, played, after, there, all_there, blank}
+use Rattle.ledger.specs.Book.{Book, played, after, there, all_there, blank}
 use Rattle.ledger.proofs.Books.{played_more, there_more, sound}
 
 module _ (d : ℕ) (ms : List Move) (all : all_there d ms ≡ true) where
@@ -27,40 +26,11 @@ module _ (d : ℕ) (ms : List Move) (all : all_there d ms ≡ true) where
     abbrev pub Fields : List (Option ℕ) → List Bool → Type 0
     Fields os bs = (all_there d new ≡ true) × (os ≡ (after d new).standing) × (bs ≡ (after d new).seen)
 
-    pub put_more : (p : ℕ) → p < 2 ^ d → new ≡ ms ++ Put p ∷ [] → (n : ℕ) → n ≡ length seen → (seen' : List Bool) → seen' ≡ seen ++ false ∷ [] → Fields (set standing p (Some n)) seen'
-    put_more p l is n e seen' f =
-        let b = book_more (Put p) new is in
-        let x = ap (λ (y : Book). y.standing) b in
-        let y = ap (λ (y : Book). y.seen) b in
-        (all_more (Put p) new is (lt-ltb p (2 ^ d) l), cc, cc)
-
-    pub put_cut_more : (p k : ℕ) → p < 2 ^ d → new ≡ ms ++ PutCut p k ∷ [] → (seen' : List Bool) → seen' ≡ seen ++ false ∷ [] → Fields standing seen'
-    put_cut_more p k l is seen' f =
-        let b = book_more (PutCut p k) new is in
-        let x = ap (λ (y : Book). y.standing) b in
-        let y = ap (λ (y : Book). y.seen) b in
-        (all_more (PutCut p k) new is (lt-ltb p (2 ^ d) l), cc, cc)
-
-    pub out_more : (p : ℕ) → p < 2 ^ d → new ≡ ms ++ Out p ∷ [] → Fields (set standing p None) seen
-    out_more p l is =
-        let b = book_more (Out p) new is in
-        let x = ap (λ (y : Book). y.standing) b in
-        let y = ap (λ (y : Book). y.seen) b in
-        (all_more (Out p) new is (lt-ltb p (2 ^ d) l), cc, cc)
-
-    pub out-cut_more : (p k : ℕ) → p < 2 ^ d → new ≡ ms ++ OutCut p k ∷ [] → Fields standing seen
-    out-cut_more p k l is =
-        let b = book_more (OutCut p k) new is in
-        let x = ap (λ (y : Book). y.standing) b in
-        let y = ap (λ (y : Book). y.seen) b in
-        (all_more (OutCut p k) new is (lt-ltb p (2 ^ d) l), cc, cc)
-
-    pub look_more : new ≡ ms ++ Look ∷ [] → (seen' : List Bool) → seen' ≡ looked standing seen → Fields standing seen'
-    look_more is seen' f =
-        let b = book_more Look new is in
-        let x = ap (λ (y : Book). y.standing) b in
-        let y = ap (λ (y : Book). y.seen) b in
-        (all_more Look new is refl, cc, cc)
+    pub fields-played : (m : Move) → there d m ≡ true → new ≡ ms ++ m ∷ [] → (os : List (Option ℕ)) (bs : List Bool) → os ≡ (played m (record { standing = standing; seen = seen })).standing → bs ≡ (played m (record { standing = standing; seen = seen })).seen → Fields os bs
+    fields-played m h is os bs e f =
+        let b : played m (record { standing = standing; seen = seen }) ≡ after d new =
+        ap (λ os. played m (record { standing = os; seen = seen })) stands ∙ ap (λ bs. played m (record { standing = (after d ms).standing; seen = bs })) saw ∙ sym (book_more m new is) in
+        (all_more m new is h, e ∙ ap (λ (x : Book). x.standing) b, f ∙ ap (λ (x : Book). x.seen) b)
 
 -- What stands in a list at an index within does not hang on the default.
 pub any-default : {A : Type 0} (xs : List A) (i : ℕ) (a b : A) → i < length xs → get_or xs i a ≡ get_or xs i b

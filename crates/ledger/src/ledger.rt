@@ -1,8 +1,9 @@
 // The calls. Their contracts speak of the levels and the moves: those say all that is kept.
-ghost use Rattle.std.specs.Prelude.{◌≡◌, ℕ, ◌<◌, ◌≤◌, [], ◌∷◌, ◌++◌, length, is_ok, IfOk, if◌then◌else◌, Some, None, slice_index_or};
+ghost use Rattle.std.specs.Prelude.{◌≡◌, ℕ, ◌<◌, ◌≤◌, true, [], ◌∷◌, ◌++◌, length, is_ok, IfOk, if◌then◌else◌, Some, None, Ok, Err, ◌^◌, slice_index_or};
 ghost use Rattle.ledger.specs.Answers.{Noted, Standing};
-ghost use Rattle.ledger.specs.Book.{looked, puts_in};
+ghost use Rattle.ledger.specs.Book.{looked, puts_in, there};
 ghost use Rattle.ledger.specs.Play.{FreshAllowed, Right, SomeFresh};
+ghost use Rattle.ledger.specs.declared.answer.Failure.TheVariants.{NoSuchPlace};
 ghost use Rattle.ledger.specs.declared.moves.Move.TheVariants as plays;
 
 use crate::answer::{Failure, Verdict};
@@ -33,20 +34,46 @@ impl Ledger {
         self.seen.len()
     }
 
+    // Whether there is such a place.
+    fn check(&self, place: u32) -> Result<(), Failure>
+        ensures { elim result [ Ok _ ↦ place < 2 ^ self.now.levels | Err why ↦ (why ≡ NoSuchPlace) × (2 ^ self.now.levels ≤ place) ] }
+    {
+        if place >= places(self.levels) {
+            return Err(Failure::NoSuchPlace);
+        }
+        Ok(())
+    }
+
+    // One move more, or none where there is no memory.
+    fn note(&mut self, play: Move) -> Result<(), AllocError>
+        requires { there self.old.levels play ≡ true }
+        ensures levels { self.new.levels ≡ self.old.levels }
+        ensures noted { self.new.moves.items ≡ (if is_ok result then self.old.moves.items ++ play ∷ [] else self.old.moves.items) }
+    {
+        self.moves.reserve(1)?;
+        match play {
+            Move::Put { place } => {
+                let number = self.seen.len();
+                self.seen.push(false)?;
+                self.standing[place as usize] = Some(number);
+            }
+            Move::PutCut { .. } => self.seen.push(false)?,
+            Move::Out { place } => self.standing[place as usize] = None,
+            Move::OutCut { .. } => {}
+            Move::Look => see(&self.standing, &mut self.seen),
+        }
+        self.moves.push_reserved(play);
+        Ok(())
+    }
+
     // A put made to its end: its number.
     pub fn put(&mut self, place: u32) -> Result<usize, Failure>
         ensures levels { self.new.levels ≡ self.old.levels }
         ensures noted { Noted self.old.levels place (plays.Put place) self.old.moves.items self.new.moves.items (λ number. number ≡ puts_in self.old.moves.items) result }
     {
-        if place >= places(self.levels) {
-            return Err(Failure::NoSuchPlace);
-        }
-        let number = self.seen.len();
-        if self.moves.reserve(1).is_err() || self.seen.push(false).is_err() {
-            return Err(Failure::Memory);
-        }
-        self.moves.push_reserved(Move::Put { place });
-        self.standing[place as usize] = Some(number);
+        self.check(place)?;
+        let number = self.puts();
+        self.note(Move::Put { place })?;
         Ok(number)
     }
 
@@ -55,14 +82,9 @@ impl Ledger {
         ensures levels { self.new.levels ≡ self.old.levels }
         ensures noted { Noted self.old.levels place (plays.PutCut place records) self.old.moves.items self.new.moves.items (λ number. number ≡ puts_in self.old.moves.items) result }
     {
-        if place >= places(self.levels) {
-            return Err(Failure::NoSuchPlace);
-        }
-        let number = self.seen.len();
-        if self.moves.reserve(1).is_err() || self.seen.push(false).is_err() {
-            return Err(Failure::Memory);
-        }
-        self.moves.push_reserved(Move::PutCut { place, records });
+        self.check(place)?;
+        let number = self.puts();
+        self.note(Move::PutCut { place, records })?;
         Ok(number)
     }
 
@@ -71,14 +93,8 @@ impl Ledger {
         ensures levels { self.new.levels ≡ self.old.levels }
         ensures noted { Noted self.old.levels place (plays.Out place) self.old.moves.items self.new.moves.items (λ _. Unit {0}) result }
     {
-        if place >= places(self.levels) {
-            return Err(Failure::NoSuchPlace);
-        }
-        if self.moves.reserve(1).is_err() {
-            return Err(Failure::Memory);
-        }
-        self.moves.push_reserved(Move::Out { place });
-        self.standing[place as usize] = None;
+        self.check(place)?;
+        self.note(Move::Out { place })?;
         Ok(())
     }
 
@@ -87,13 +103,8 @@ impl Ledger {
         ensures levels { self.new.levels ≡ self.old.levels }
         ensures noted { Noted self.old.levels place (plays.OutCut place records) self.old.moves.items self.new.moves.items (λ _. Unit {0}) result }
     {
-        if place >= places(self.levels) {
-            return Err(Failure::NoSuchPlace);
-        }
-        if self.moves.reserve(1).is_err() {
-            return Err(Failure::Memory);
-        }
-        self.moves.push_reserved(Move::OutCut { place, records });
+        self.check(place)?;
+        self.note(Move::OutCut { place, records })?;
         Ok(())
     }
 
@@ -102,19 +113,14 @@ impl Ledger {
         ensures levels { self.new.levels ≡ self.old.levels }
         ensures noted { self.new.moves.items ≡ (if is_ok result then self.old.moves.items ++ plays.Look ∷ [] else self.old.moves.items) }
     {
-        self.moves.reserve(1)?;
-        self.moves.push_reserved(Move::Look);
-        see(&self.standing, &mut self.seen);
-        Ok(())
+        self.note(Move::Look)
     }
 
     // The put that stands in a place, if any: what the place holds by then, whatever the keys.
     pub fn standing(&self, place: u32) -> Result<Option<usize>, Failure>
         ensures { Standing self.now.levels self.now.moves.items place result }
     {
-        if place >= places(self.levels) {
-            return Err(Failure::NoSuchPlace);
-        }
+        self.check(place)?;
         Ok(self.standing[place as usize])
     }
 
@@ -122,7 +128,7 @@ impl Ledger {
     pub fn verdict(&self, put: usize) -> Verdict
         ensures { Right self.now.levels self.now.moves.items put result }
     {
-        if put < self.seen.len() && self.seen[put] {
+        if self.seen.get(put).copied().unwrap_or(false) {
             Verdict::Open
         } else {
             Verdict::Shut

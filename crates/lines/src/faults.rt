@@ -5,7 +5,7 @@ ghost use Rattle.lines.specs.declared.faults.Refusal.TheVariants as refusals;
 
 use crate::fields::Field;
 use chacha20::stream::TooLong;
-use rehearsal::failure::Failure as Unmade;
+use change::failure::Failure as Unmade;
 use std::alloc::AllocError;
 use std::fmt;
 use tree::answer::Refusal as Unchanged;

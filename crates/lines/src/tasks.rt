@@ -9,7 +9,7 @@ use chacha20::stream::Stream;
 use poly1305::{Poly1305, mac};
 use sealing::aead;
 use sealing::key::Key;
-use sealing::opening::{Mark, Nonce, Opening};
+use sealing::opening::{Mark, Nonce};
 use sealing::workspace::Workspace;
 use std::alloc::Global;
 
@@ -66,10 +66,9 @@ impl Work {
         let length = content.len();
         let mark = Mark(*mark);
         sealed.truncate(length);
-        let Opening::Opened = aead::open(key, nonce, marked, &mut sealed, &mark, &mut self.sealing)
-        else {
-            return Err(Refusal::DoesNotOpen.into());
-        };
+        aead::open(key, nonce, marked, &mut sealed, &mark, &mut self.sealing).map_err(
+            |_| Refusal::DoesNotOpen,
+        )?;
         Ok(sealed)
     }
 

@@ -1,11 +1,11 @@
 // A chip in memory.
 ghost use Rattle.std.specs.Prelude.{◌≡◌, [], replicate, IfOk, Some, None};
 ghost use Rattle.slot.specs.Held.{held};
-ghost use Rattle.trace.specs.Asked.{givens};
 ghost use Rattle.devices.specs.Given.{Gives, given_now};
 ghost use Rattle.memory.specs.Told.{Told};
 
-use devices::chip::{Chip, Replaced};
+use devices::chip::Chip;
+use devices::fault::Fault;
 use devices::medium::Medium;
 use sealing::key::Key;
 use slot::Slot;
@@ -29,7 +29,7 @@ pub struct MemoryChip {
 impl MemoryChip {
     // A chip that was never given a key: zeros, with the number 0.
     pub fn new(heap: Global) -> Result<MemoryChip, AllocError>
-        ensures { IfOk result (λ c. (held c.slot ≡ record { number = 0; bytes = replicate 32 0 }) × (givens c.ledger.keys ≡ []) × (c.failing ≡ None)) }
+        ensures { IfOk result (λ c. (held c.slot ≡ record { number = 0; bytes = replicate 32 0 }) × (c.ledger.keys ≡ []) × (c.failing ≡ None)) }
     {
         Ok(MemoryChip {
             slot: Slot::new(heap)?,
@@ -51,7 +51,7 @@ impl MemoryChip {
 impl Chip for MemoryChip {
     ghost holds = { λ c. held c.slot };
 
-    ghost given = { λ c. givens c.ledger.keys };
+    ghost given = { λ c. c.ledger.keys };
 
     fn number(&self) -> u32 {
         self.slot.number()
@@ -62,23 +62,21 @@ impl Chip for MemoryChip {
     }
 
     // It fails where it was told to.
-    fn replaced<M: Medium>(mut self, key: &Key, number: u32, medium: &M) -> Replaced<MemoryChip>
-        ensures gives { Gives (λ c. held c.slot) (λ c. givens c.ledger.keys) self (given_now number key.now.bytes (M.log medium.now)) result }
-        ensures told { Told self.failing (held self.slot) (record { number = number; bytes = key.now.bytes }) result }
+    fn replace<M: Medium>(&mut self, key: &Key, number: u32, medium: &M) -> Result<(), Fault>
+        ensures gives { Gives (λ c. held c.slot) (λ c. c.ledger.keys) self.old (given_now number key.now.bytes (M.log medium.now)) result self.new }
+        ensures told { Told self.old.failing (held self.old.slot) (record { number = number; bytes = key.now.bytes }) result (held self.new.slot) }
     {
         let ledger = self.ledger.given(number, key, medium);
         self.ledger = ledger;
-        let failing = self.failing;
-        self.failing = None;
-        match failing {
+        match self.failing.take() {
             None => {
                 self.slot.set(key, number);
-                Replaced::Done(self)
+                Ok(())
             }
-            Some(Leaves::Old) => Replaced::Failed(self),
+            Some(Leaves::Old) => Err(Fault),
             Some(Leaves::New) => {
                 self.slot.set(key, number);
-                Replaced::Failed(self)
+                Err(Fault)
             }
         }
     }

@@ -1,7 +1,6 @@
 // A medium in memory.
 ghost use Rattle.std.specs.Prelude.{◌≡◌, ℕ, ◌+◌, ◌≤◌, true, false, List, [], ◌∷◌, ◌++◌, length, take, Some, None};
 ghost use Rattle.devices.specs.Events.{appended, synced, held, Faithful, Left};
-ghost use Rattle.trace.specs.Asked.{events};
 ghost use Rattle.memory.specs.Stops.{is_faithful, Whole, Lasting};
 
 use crate::power::{Power, Stop, Supply};
@@ -16,15 +15,15 @@ pub struct MemoryMedium {
     lasting: usize,
     power: Power,
     trace: Trace,
-    ghost faithful: { is_faithful (events trace.asked) ≡ true },
-    ghost whole: { Whole power.on bytes.items (events trace.asked) },
-    ghost left: { Lasting lasting bytes.items (events trace.asked) },
+    ghost faithful: { is_faithful trace.asked ≡ true },
+    ghost whole: { Whole power.on bytes.items trace.asked },
+    ghost left: { Lasting lasting bytes.items trace.asked },
 }
 
 impl MemoryMedium {
     // A medium to which these bytes were added, and then made to last.
     pub fn new(bytes: Vec<u8>) -> MemoryMedium
-        ensures log { events result.trace.asked ≡ synced ∷ (appended bytes.items ∷ []) }
+        ensures log { result.trace.asked ≡ synced ∷ (appended bytes.items ∷ []) }
         ensures value { result.bytes.items ≡ bytes.items }
         ensures power { result.power ≡ record { on = true; stop = None } }
     {
@@ -60,15 +59,15 @@ impl MemoryMedium {
     // What is there now: all that was asked, while the power is on. Whatever was read is what was there.
     pub fn bytes(&self) -> &[u8]
         ensures value { result.now ≡ self.now.bytes.items }
-        ensures whole { self.now.power.on ≡ true → held [] (events self.now.trace.asked) ≡ result.now }
-        ensures faithful { Faithful [] (events self.now.trace.asked) }
+        ensures whole { self.now.power.on ≡ true → held [] self.now.trace.asked ≡ result.now }
+        ensures faithful { Faithful [] self.now.trace.asked }
     {
         self.bytes.as_slice()
     }
 
     // What a stop leaves: all that lasts, and so many bytes of what followed.
     pub fn left(self, more: usize) -> Vec<u8>
-        ensures { Left [] (events self.trace.asked) result.items }
+        ensures { Left [] self.trace.asked result.items }
     {
         let MemoryMedium {
             mut bytes,
@@ -82,7 +81,7 @@ impl MemoryMedium {
 }
 
 impl Medium for MemoryMedium {
-    ghost log = { λ m. events m.trace.asked };
+    ghost log = { λ m. m.trace.asked };
 
     fn read_at(&mut self, offset: u64, buffer: &mut [u8]) -> Result<(), Fault> {
         let start = offset as usize;

@@ -1,7 +1,7 @@
 -- Laws of `le` and `le_bytes`.
-use Rattle.std.proofs.Common.{◌≡◌, ℕ, zero, suc, ◌+◌, ◌*◌, ◌/◌, ◌%◌, ◌^◌, ◌<◌, List, [], ◌∷◌, ◌++◌, length, get_or, take, drop, replicate, refl, ap, mul_comm, suc-add, pow-suc, zero-add, div-one, arith}
+use Rattle.std.proofs.Common.{◌≡◌, ℕ, zero, suc, ◌+◌, ◌*◌, ◌/◌, ◌%◌, ◌^◌, ◌<◌, List, [], ◌∷◌, ◌++◌, length, get_or, drop, replicate, refl, ap, mul_comm, suc-add, pow-suc, zero-add, div-one, arith}
 use native.Mathlib.Nat.{div-div-eq-div-mul}
-use Rattle.std.proofs.lemmas.List.{drop_more}
+use Rattle.std.proofs.lemmas.List.{drop_more, drop_all}
 use Rattle.octets.specs.Endian.{le, le_bytes}
 
 pub le-none : le [] ≡ 0
@@ -12,11 +12,15 @@ pub le-one : (b : ℕ) → le (b ∷ []) ≡ b
 unfolding le
 le-one b = omega arith
 
--- One byte taken off the front of a part.
-pub le-part : (s : List ℕ) (at next n : ℕ) → at < length s → next ≡ at + 1
-    → le (take (suc n) (drop at s)) ≡ get_or s at 0 + 256 * le (take n (drop next s))
+-- One byte taken off the front of what is left.
+pub le_front : (s : List ℕ) (at next : ℕ) → at < length s → next ≡ at + 1 → le (drop at s) ≡ get_or s at 0 + 256 * le (drop next s)
 unfolding le
-le-part s at next n h e = rw (drop_more s at 0 h, e)
+le_front s at next h e = rw (drop_more s at 0 h, e)
+
+-- Nothing is left.
+pub le_end : (s : List ℕ) (at : ℕ) → length s ≡ at → le (drop at s) ≡ 0
+unfolding le
+le_end s at h = rw (drop_all at s (omega arith))
 
 -- The number of joined strings.
 pub le-append : (xs ys : List ℕ) → le (xs ++ ys) ≡ le xs + 256 ^ length xs * le ys

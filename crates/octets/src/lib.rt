@@ -4,45 +4,73 @@
 ghost use Rattle.std.specs.Prelude.{◌≡◌, ℕ, ◌+◌, ◌<◌, ◌≤◌, List, ◌++◌, length, take, drop, replicate};
 ghost use Rattle.octets.specs.Endian.{le, le_bytes};
 
-// The word of four bytes from `at` on.
-pub fn u32_at(bytes: &[u8], at: usize) -> u32
-    requires { at + 4 ≤ length bytes.now }
-    ensures { result ≡ le (take 4 (drop at bytes.now)) }
-{
-    u32::from_le_bytes([bytes[at], bytes[at + 1], bytes[at + 2], bytes[at + 3]])
+// A number that a fixed count of bytes writes, the lowest byte first.
+pub trait Word: Copy {
+    const WIDTH: usize;
+
+    ghost WIDTH: { ℕ };
+
+    ghost number: { Self → ℕ };
+
+    // The word that the bytes write.
+    fn read(bytes: &[u8]) -> Self
+        requires { length bytes.now ≡ WIDTH }
+        ensures { number result ≡ le bytes.now };
+
+    // The bytes that write the word.
+    fn write(self, out: &mut [u8])
+        requires { length out.old ≡ WIDTH }
+        ensures { out.new ≡ le_bytes WIDTH (number self) };
 }
 
-// The word of eight bytes from `at` on.
-pub fn u64_at(bytes: &[u8], at: usize) -> u64
-    requires { at + 8 ≤ length bytes.now }
-    ensures { result ≡ le (take 8 (drop at bytes.now)) }
-{
-    u64::from_le_bytes([
-        bytes[at],
-        bytes[at + 1],
-        bytes[at + 2],
-        bytes[at + 3],
-        bytes[at + 4],
-        bytes[at + 5],
-        bytes[at + 6],
-        bytes[at + 7],
-    ])
+impl Word for u32 {
+    const WIDTH: usize = 4;
+
+    ghost WIDTH = { 4 };
+
+    ghost number = { λ word. word };
+
+    fn read(bytes: &[u8]) -> u32 {
+        u32::from_le_bytes([bytes[0], bytes[1], bytes[2], bytes[3]])
+    }
+
+    fn write(self, out: &mut [u8]) {
+        out.copy_from_slice(&u32::to_le_bytes(self));
+    }
 }
 
-// Four bytes that write a word.
-pub fn put_u32(out: &mut [u8], at: usize, word: u32)
-    requires { at + 4 ≤ length out.old }
-    ensures { out.new ≡ take at out.old ++ (le_bytes 4 word ++ drop (at + 4) out.old) }
-{
-    out[at..at + 4].copy_from_slice(&word.to_le_bytes());
+impl Word for u64 {
+    const WIDTH: usize = 8;
+
+    ghost WIDTH = { 8 };
+
+    ghost number = { λ word. word };
+
+    fn read(bytes: &[u8]) -> u64 {
+        u64::from_le_bytes([
+            bytes[0], bytes[1], bytes[2], bytes[3], bytes[4], bytes[5], bytes[6], bytes[7],
+        ])
+    }
+
+    fn write(self, out: &mut [u8]) {
+        out.copy_from_slice(&u64::to_le_bytes(self));
+    }
 }
 
-// Eight bytes that write a word.
-pub fn put_u64(out: &mut [u8], at: usize, word: u64)
-    requires { at + 8 ≤ length out.old }
-    ensures { out.new ≡ take at out.old ++ (le_bytes 8 word ++ drop (at + 8) out.old) }
+// The word that stands in the bytes from `at` on.
+pub fn word_at<W: Word>(bytes: &[u8], at: usize) -> W
+    requires { at + W.WIDTH ≤ length bytes.now }
+    ensures { W.number result ≡ le (take W.WIDTH (drop at bytes.now)) }
 {
-    out[at..at + 8].copy_from_slice(&word.to_le_bytes());
+    W::read(&bytes[at..at + W::WIDTH])
+}
+
+// A word written into the bytes from `at` on.
+pub fn put_word<W: Word>(out: &mut [u8], at: usize, word: W)
+    requires { at + W.WIDTH ≤ length out.old }
+    ensures { out.new ≡ take at out.old ++ (le_bytes W.WIDTH (W.number word) ++ drop (at + W.WIDTH) out.old) }
+{
+    word.write(&mut out[at..at + W::WIDTH]);
 }
 
 // A buffer cleared to zeros.

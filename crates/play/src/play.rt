@@ -10,11 +10,9 @@ use ledger::answer::Verdict;
 use ledger::book::Ledger;
 use memory::medium::MemoryMedium;
 use records::decode::decode;
-use records::record::Decoded;
 use rehearsal::levels::Levels;
 use rehearsal::readable::Written;
 use std::alloc::{AllocError, Global};
-use storage::reading::Reading;
 use tree::answer::Refusal;
 
 // The most bytes of a content.
@@ -56,7 +54,7 @@ pub struct Play {
 fn length_of(levels: u32, bytes: &[u8], count: u32) -> usize {
     let mut rest = bytes;
     for _ in 0..count {
-        let Decoded::One(_, after) = decode(levels, rest) else {
+        let Ok((_, after)) = decode(levels, rest) else {
             break;
         };
         rest = after;
@@ -66,22 +64,15 @@ fn length_of(levels: u32, bytes: &[u8], count: u32) -> usize {
 
 // What follows the first so many bytes of a medium.
 fn bytes_after(heap: Global, medium: &MemoryMedium, end: usize) -> Result<Vec<u8>, Failure> {
-    let bytes = medium.bytes();
-    if end > bytes.len() {
-        return Err(Failure::Device);
-    }
-    match bytes[end..].to_vec(heap) {
-        Ok(rest) => Ok(rest),
-        Err(_) => Err(Failure::Memory),
-    }
+    let rest = medium.bytes().get(end..).ok_or(Failure::Device)?;
+    Ok(rest.to_vec(heap)?)
 }
 
-// What the ledger answers, where there are all the places that the store has.
-fn noted<T: Drop>(answer: Result<T, ledger::answer::Failure>) -> Result<(), Failure> {
-    match answer {
-        Ok(_) => Ok(()),
-        Err(ledger::answer::Failure::NoSuchPlace) => Err(Failure::Refused(Refusal::NoSuchPlace)),
-        Err(ledger::answer::Failure::Memory) => Err(Failure::Memory),
+// Why the ledger notes nothing.
+fn unnoted(why: ledger::answer::Failure) -> Failure {
+    match why {
+        ledger::answer::Failure::NoSuchPlace => Failure::Refused(Refusal::NoSuchPlace),
+        ledger::answer::Failure::Memory => Failure::Memory,
     }
 }
 
@@ -148,7 +139,7 @@ impl Play {
     fn try_change(&self, deed: &Deed) -> Result<(Vec<u8>, u32), Failure> {
         let mut store = self.store()?;
         let answer = change(self.heap, self.levels, &mut store, deed);
-        let (medium, root) = taken_apart(store)?;
+        let (medium, root) = taken_apart(store);
         answer?;
         let bytes = bytes_after(self.heap, &medium, self.end)?;
         Ok((bytes, root))
@@ -160,7 +151,7 @@ impl Play {
         medium.fail_after((self.deeds.len() as u64).saturating_mul(2), kept);
         let mut store = replay(self.heap, self.levels, medium, &self.deeds)?;
         let answer = change(self.heap, self.levels, &mut store, deed);
-        let (_, root) = taken_apart(store)?;
+        let (_, root) = taken_apart(store);
         match answer {
             Err(Failure::Stopped) => Ok(root),
             Err(why) => Err(why),
@@ -170,12 +161,12 @@ impl Play {
 
     // A put or a taking out, with the power cut if that was said.
     fn change(&mut self, deed: Deed) -> Result<Outcome, Failure> {
-        let Some(drawn) = self.drawn.checked_add(deed.draws(self.levels.count())) else {
-            return Err(Failure::Refused(Refusal::NumbersSpent));
-        };
+        let drawn = self
+            .drawn
+            .checked_add(deed.draws(self.levels.count()))
+            .ok_or(Failure::Refused(Refusal::NumbersSpent))?;
         let (bytes, root) = self.try_change(&deed)?;
-        let stop = self.stop;
-        self.stop = None;
+        let stop = self.stop.take();
         self.drawn = drawn;
         if let Some(Stop::Records(count)) = stop {
             let kept = length_of(self.levels.count(), &bytes, count);
@@ -194,22 +185,22 @@ impl Play {
 
     // A change that was made is one of the play's.
     fn note(&mut self, deed: Deed) -> Result<(), Failure> {
-        match &deed.content {
-            Some(_) => noted(self.ledger.put(deed.place))?,
-            None => noted(self.ledger.out(deed.place))?,
+        if deed.content.is_some() {
+            self.ledger.put(deed.place).map_err(unnoted)?;
+        } else {
+            self.ledger.out(deed.place).map_err(unnoted)?;
         }
-        match self.deeds.push(deed) {
-            Ok(()) => Ok(()),
-            Err(_) => Err(Failure::Memory),
-        }
+        self.deeds.push(deed).map_err(|_| Failure::Memory)
     }
 
     // A change that was cut off leaves the store as it was.
     fn note_cut(&mut self, deed: &Deed, records: u32) -> Result<(), Failure> {
-        match &deed.content {
-            Some(_) => noted(self.ledger.put_cut(deed.place, records)),
-            None => noted(self.ledger.out_cut(deed.place, records)),
+        if deed.content.is_some() {
+            self.ledger.put_cut(deed.place, records).map_err(unnoted)?;
+        } else {
+            self.ledger.out_cut(deed.place, records).map_err(unnoted)?;
         }
+        Ok(())
     }
 
     // What a place holds.
@@ -218,22 +209,15 @@ impl Play {
         let mut buffer = [0; ROOM];
         let reading = store.read(place, &mut buffer);
         let _ = store.into_devices();
-        match reading {
-            Reading::Content(count) => match buffer[0..count].to_vec(self.heap) {
-                Ok(content) => Ok(content),
-                Err(_) => Err(Failure::Memory),
-            },
-            Reading::Failed(why) => Err(why),
-        }
+        let content = &buffer[0..reading?];
+        Ok(content.to_vec(self.heap)?)
     }
 
     // Somebody reads the chip: the number of its key.
     pub fn look(&mut self) -> Result<u32, Failure> {
-        let (_, root) = taken_apart(self.store()?)?;
-        match self.ledger.look() {
-            Ok(()) => Ok(root),
-            Err(_) => Err(Failure::Memory),
-        }
+        let (_, root) = taken_apart(self.store()?);
+        self.ledger.look()?;
+        Ok(root)
     }
 
     // Whether what a put put in can be opened with the chip's keys at all looks, and all that was ever written.

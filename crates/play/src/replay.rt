@@ -14,17 +14,14 @@ pub type Small = Store<Transparent, MemoryMedium, MemoryChip>;
 
 // An empty store over an empty medium.
 fn empty_store(heap: Global, levels: Levels, medium: MemoryMedium) -> Result<Small, Failure> {
-    let Ok(chip) = MemoryChip::new(heap) else {
-        return Err(Failure::Memory);
-    };
+    let chip = MemoryChip::new(heap)?;
     Store::new(heap, Transparent, medium, chip, levels.count())
 }
 
 // Makes a change in a store, with the keys that it drew.
 pub fn change(heap: Global, levels: Levels, store: &mut Small, deed: &Deed) -> Result<(), Failure> {
-    let Ok(mut keys) = draw(heap, deed.drawn, deed.draws(levels.count())) else {
-        return Err(Failure::Memory);
-    };
+    let count = deed.draws(levels.count());
+    let mut keys = draw(heap, deed.drawn, count)?;
     let answer = match &deed.content {
         Some(content) => store.put(deed.place, content, &mut keys),
         None => store.take_out(deed.place, &mut keys),

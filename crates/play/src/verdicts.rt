@@ -1,18 +1,10 @@
 // The verdicts on the puts of a play, in readable form.
-use ledger::answer::Verdict;
 use ledger::book::Ledger;
 use std::fmt;
 
 // The verdict on each put, counted from 1.
 #[derive(Clone, Copy)]
 pub struct Verdicts<'a>(pub &'a Ledger);
-
-fn word(verdict: Verdict) -> &'static str {
-    match verdict {
-        Verdict::Open => "open",
-        Verdict::Shut => "shut",
-    }
-}
 
 impl fmt::Display for Verdicts<'_> {
     fn fmt<W: fmt::Write>(&self, f: &mut fmt::Formatter<W>) -> fmt::Result {
@@ -24,9 +16,7 @@ impl fmt::Display for Verdicts<'_> {
             if put > 0 {
                 f.write_str("; ")?;
             }
-            let number = put + 1;
-            let word = word(self.0.verdict(put));
-            write!(f, "put {number} {word}")?;
+            write!(f, "put {} {}", put + 1, self.0.verdict(put))?;
         }
         Ok(())
     }

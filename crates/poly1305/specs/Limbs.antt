@@ -1,6 +1,7 @@
 -- Numbers of 130 bits as five limbs of 26.
-use Rattle.std.specs.Prelude.{◌≡◌, ℕ, ◌+◌, ◌*◌, ◌^◌, ◌<◌}
+use Rattle.std.specs.Prelude.{◌≡◌, ℕ, ◌+◌, ◌*◌, ◌^◌}
 use Rattle.poly1305.specs.declared.limbs.Limbs.{Limbs}
+use Rattle.poly1305.specs.declared.limbs.Sum.{Sum}
 
 -- The number that five limbs write, the lowest first.
 unfoldable pub number : (l0 l1 l2 l3 l4 : ℕ) → ℕ
@@ -9,17 +10,8 @@ number l0 l1 l2 l3 l4 = l0 + 2 ^ 26 * l1 + 2 ^ 52 * l2 + 2 ^ 78 * l3 + 2 ^ 104 *
 abbrev pub value : Limbs → ℕ
 value x = number x.l0 x.l1 x.l2 x.l3 x.l4
 
--- Limbs after a carry: only the second may pass 26 bits, and by little, so the number is below twice the prime.
-abbrev pub Carried : Limbs → Type 0
-Carried x = (x.l0 < 2 ^ 26) × (x.l1 < 2 ^ 26 + 2 ^ 13) × (x.l2 < 2 ^ 26) × (x.l3 < 2 ^ 26) × (x.l4 < 2 ^ 26)
-
--- Limbs of a sum of two such numbers, before the next carry.
-pub record Summed (x : Limbs) : Type 0 where
-  pub b0 : x.l0 < 2 ^ 28
-  pub b1 : x.l1 < 2 ^ 28
-  pub b2 : x.l2 < 2 ^ 28
-  pub b3 : x.l3 < 2 ^ 28
-  pub b4 : x.l4 < 2 ^ 28
+abbrev pub total : Sum → ℕ
+total x = number x.l0 x.l1 x.l2 x.l3 x.l4
 
 -- Every limb is 0.
 pub record Zero (x : Limbs) : Type 0 where

@@ -1,17 +1,17 @@
 // The one-time authenticator Poly1305 of RFC 8439, section 2.5.
 #![tactic(auto)]
 
-ghost use Rattle.std.specs.Prelude.{◌≡◌, ◌+◌, ◌-◌, ◌*◌, ◌/◌, ◌%◌, ◌^◌, ◌∷◌, ◌++◌, length, take, drop, replicate, bit_and};
+ghost use Rattle.std.specs.Prelude.{◌≡◌, ◌+◌, ◌-◌, ◌*◌, ◌/◌, ◌%◌, ◌^◌, ◌≤◌, ◌∷◌, ◌++◌, length, take, drop, replicate, bit_and};
 ghost use Rattle.octets.specs.Endian.{le, le_bytes};
 ghost use Rattle.poly1305.specs.Poly1305.{prime, clamp, absorb_all, blocks, padded, mac};
-ghost use Rattle.poly1305.specs.Limbs.{value, Carried};
-ghost use Rattle.poly1305.specs.State.{accumulator, multiplier, added, Idle};
+ghost use Rattle.poly1305.specs.Limbs.{value};
+ghost use Rattle.poly1305.specs.State.{accumulator, multiplier, added, Idle, last_block, absorb_part};
 
 mod limbs;
 mod state;
 
 use limbs::Limbs;
-use octets::u64_at;
+use octets::word_at;
 pub use state::Poly1305;
 
 const BLOCK: usize = 16;
@@ -55,12 +55,7 @@ impl Poly1305 {
         ensures multiplier { multiplier self.new ≡ multiplier self.old }
         ensures added { added self.new ≡ added self.old }
     {
-        let mut acc = absorb_whole(self.acc, self.r, part);
-        if part.len() % BLOCK != 0 {
-            let block = last_block(part, 0);
-            acc = acc.absorb(self.r, u64_at(&block, 0), u64_at(&block, 8), MARK);
-        }
-        self.acc = acc;
+        self.absorb_part(part, 0, MARK);
     }
 
     // The last part, of any length: its last block may be shorter, and the byte 1 then stands right after it.
@@ -69,10 +64,19 @@ impl Poly1305 {
         ensures multiplier { multiplier self.new ≡ multiplier self.old }
         ensures added { added self.new ≡ added self.old }
     {
+        self.absorb_part(part, 1, 0);
+    }
+
+    // The whole blocks of a part, and what follows them, if anything: filled up with the byte `end` and zeros, with `top` in the highest limb.
+    fn absorb_part(&mut self, part: &[u8], end: u8, top: u64)
+        requires { top ≤ 2 ^ 24 }
+        ensures accumulator { accumulator self.new ≡ absorb_part (multiplier self.old) (accumulator self.old) part.now end top }
+        ensures multiplier { multiplier self.new ≡ multiplier self.old }
+        ensures added { added self.new ≡ added self.old }
+    {
         let mut acc = absorb_whole(self.acc, self.r, part);
         if part.len() % BLOCK != 0 {
-            let block = last_block(part, 1);
-            acc = acc.absorb(self.r, u64_at(&block, 0), u64_at(&block, 8), 0);
+            acc = acc.absorb(self.r, &last_block(part, end), top);
         }
         self.acc = acc;
     }
@@ -105,10 +109,9 @@ fn clamped(lo: u64, hi: u64) -> (u64, u64)
 
 // The first half of the key, by which the accumulator is multiplied.
 fn first_half(key: &[u8; 32]) -> Limbs
-    ensures carried { Carried result }
-    ensures value { value result ≡ clamp (le (take 16 key.now)) }
+    ensures { value result ≡ clamp (le (take 16 key.now)) }
 {
-    let (lo, hi) = clamped(u64_at(key, 0), u64_at(key, 8));
+    let (lo, hi) = clamped(word_at(key, 0), word_at(key, 8));
     Limbs::from_words(lo, hi, 0)
 }
 
@@ -116,7 +119,7 @@ fn first_half(key: &[u8; 32]) -> Limbs
 fn second_half(key: &[u8; 32]) -> (u64, u64)
     ensures { result.0 + 2 ^ 64 * result.1 ≡ le (take 16 (drop 16 key.now)) }
 {
-    (u64_at(key, 16), u64_at(key, 24))
+    (word_at(key, 16), word_at(key, 24))
 }
 
 // The tag of a message. The state is working memory: whatever it held, it is zeros afterwards.
@@ -131,25 +134,23 @@ pub fn mac(key: &[u8; 32], message: &[u8], state: &mut Poly1305) -> [u8; 16]
 
 // The whole blocks of a part.
 fn absorb_whole(mut acc: Limbs, r: Limbs, part: &[u8]) -> Limbs
-    requires { (Carried acc) × (Carried r) }
-    ensures carried { Carried result }
-    ensures value { value result % prime ≡ absorb_all (value r) (value acc % prime) (length part.now / 16) part.now }
+    ensures { value result % prime ≡ absorb_all (value r) (value acc % prime) (length part.now / 16) part.now }
 {
-    for i in 0..part.len() / BLOCK {
-        let at = BLOCK * i;
-        acc = acc.absorb(r, u64_at(part, at), u64_at(part, at + 8), MARK);
+    let (whole, _) = part.as_chunks::<BLOCK>();
+    for block in whole {
+        acc = acc.absorb(r, block, MARK);
     }
     acc
 }
 
 // What follows the whole blocks of a part, then the byte `end`, and zeros up to a block.
 fn last_block(part: &[u8], end: u8) -> [u8; 16]
-    ensures { result ≡ drop (16 * (length part.now / 16)) part.now ++ end ∷ replicate (15 - length part.now % 16) 0 }
+    ensures { result ≡ last_block part.now end }
 {
-    let rest = part.len() % BLOCK;
+    let (_, rest) = part.as_chunks::<BLOCK>();
     let mut block = [0; BLOCK];
-    block[0..rest].copy_from_slice(&part[part.len() - rest..]);
-    block[rest] = end;
+    block[..rest.len()].copy_from_slice(rest);
+    block[rest.len()] = end;
     block
 }
 

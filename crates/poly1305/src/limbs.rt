@@ -1,7 +1,10 @@
 // Arithmetic modulo 2^130 - 5, on numbers of five limbs.
 ghost use Rattle.std.specs.Prelude.{◌≡◌, ◌+◌, ◌*◌, ◌%◌, ◌^◌, ◌<◌, ◌≤◌};
+ghost use Rattle.octets.specs.Endian.{le};
 ghost use Rattle.poly1305.specs.Poly1305.{prime};
-ghost use Rattle.poly1305.specs.Limbs.{number, value, Carried, Summed};
+ghost use Rattle.poly1305.specs.Bounds.{Carried, Summed};
+
+use octets::word_at;
 
 const LIMB_BITS: u32 = 26;
 
@@ -15,9 +18,23 @@ pub struct Limbs {
     pub(crate) l2: u64,
     pub(crate) l3: u64,
     pub(crate) l4: u64,
+    ghost carried: { Carried l0 l1 l2 l3 l4 },
+}
+
+// The sum of two such numbers, before the next carry.
+#[derive(Clone, Copy)]
+struct Sum {
+    l0: u64,
+    l1: u64,
+    l2: u64,
+    l3: u64,
+    l4: u64,
+    ghost summed: { Summed l0 l1 l2 l3 l4 },
 }
 
 impl Limbs {
+    ghost use Rattle.poly1305.specs.Limbs.{number, value, total};
+
     pub(crate) const ZERO: Limbs = Limbs {
         l0: 0,
         l1: 0,
@@ -27,8 +44,7 @@ impl Limbs {
     };
 
     pub(crate) fn zero() -> Limbs
-        ensures carried { Carried result }
-        ensures value { value result % prime ≡ 0 }
+        ensures { value result % prime ≡ 0 }
     {
         Limbs::ZERO
     }
@@ -36,8 +52,7 @@ impl Limbs {
     // The number of two words and of `top`, which stands in the highest limb.
     pub(crate) fn from_words(lo: u64, hi: u64, top: u64) -> Limbs
         requires { top ≤ 2 ^ 24 }
-        ensures carried { Carried result }
-        ensures value { value result ≡ lo + 2 ^ 64 * hi + 2 ^ 104 * top }
+        ensures { value result ≡ lo + 2 ^ 64 * hi + 2 ^ 104 * top }
     {
         Limbs {
             l0: lo & LIMB_MASK,
@@ -48,12 +63,29 @@ impl Limbs {
         }
     }
 
-    fn plus(self, other: Limbs) -> Limbs
-        requires { (Carried self) × (Carried other) }
-        ensures summed { Summed result }
-        ensures value { value result ≡ value self + value other }
+    // Each sum passes what it has above 26 bits on to the next one, and the last passes it, five times, to the first.
+    fn carry(d0: u64, d1: u64, d2: u64, d3: u64, d4: u64) -> Limbs
+        requires { (d0 < 2 ^ 61) × ((d1 < 2 ^ 61) × ((d2 < 2 ^ 61) × ((d3 < 2 ^ 61) × (d4 < 2 ^ 61)))) }
+        ensures { value result % prime ≡ number d0 d1 d2 d3 d4 % prime }
     {
+        let e1 = d1 + (d0 >> LIMB_BITS);
+        let e2 = d2 + (e1 >> LIMB_BITS);
+        let e3 = d3 + (e2 >> LIMB_BITS);
+        let e4 = d4 + (e3 >> LIMB_BITS);
+        let e0 = (d0 & LIMB_MASK) + 5 * (e4 >> LIMB_BITS);
         Limbs {
+            l0: e0 & LIMB_MASK,
+            l1: (e1 & LIMB_MASK) + (e0 >> LIMB_BITS),
+            l2: e2 & LIMB_MASK,
+            l3: e3 & LIMB_MASK,
+            l4: e4 & LIMB_MASK,
+        }
+    }
+
+    fn plus(self, other: Limbs) -> Sum
+        ensures { total result ≡ value self + value other }
+    {
+        Sum {
             l0: self.l0 + other.l0,
             l1: self.l1 + other.l1,
             l2: self.l2 + other.l2,
@@ -62,50 +94,17 @@ impl Limbs {
         }
     }
 
-    fn times(self, r: Limbs) -> Limbs
-        requires { (Summed self) × (Carried r) }
-        ensures carried { Carried result }
-        ensures value { value result % prime ≡ (value self * value r) % prime }
+    // A block is added, with `top` in the highest limb, and the sum multiplied by r.
+    pub(crate) fn absorb(self, r: Limbs, block: &[u8; 16], top: u64) -> Limbs
+        requires { top ≤ 2 ^ 24 }
+        ensures { value result % prime ≡ ((value self + (le block.now + 2 ^ 104 * top)) * value r) % prime }
     {
-        let s1 = 5 * r.l1;
-        let s2 = 5 * r.l2;
-        let s3 = 5 * r.l3;
-        let s4 = 5 * r.l4;
-        carry(
-            self.dot(r.l0, s4, s3, s2, s1),
-            self.dot(r.l1, r.l0, s4, s3, s2),
-            self.dot(r.l2, r.l1, r.l0, s4, s3),
-            self.dot(r.l3, r.l2, r.l1, r.l0, s4),
-            self.dot(r.l4, r.l3, r.l2, r.l1, r.l0),
-        )
-    }
-
-    // The sum of the limbs' products with five factors.
-    fn dot(self, a: u64, b: u64, c: u64, d: u64, e: u64) -> u64
-        requires summed { Summed self }
-        requires factors { (a < 2 ^ 29) × ((b < 2 ^ 29) × ((c < 2 ^ 29) × ((d < 2 ^ 29) × (e < 2 ^ 29)))) }
-        ensures value { result ≡ self.l0 * a + self.l1 * b + self.l2 * c + self.l3 * d + self.l4 * e }
-        ensures below { result < 2 ^ 61 }
-    {
-        product(self.l0, a)
-            + product(self.l1, b)
-            + product(self.l2, c)
-            + product(self.l3, d)
-            + product(self.l4, e)
-    }
-
-    // A block is added, as two words and the limb `top`, and the sum multiplied by r.
-    pub(crate) fn absorb(self, r: Limbs, lo: u64, hi: u64, top: u64) -> Limbs
-        requires bounds { (Carried self) × ((Carried r) × (top ≤ 2 ^ 24)) }
-        ensures carried { Carried result }
-        ensures value { value result % prime ≡ ((value self + (lo + 2 ^ 64 * hi + 2 ^ 104 * top)) * value r) % prime }
-    {
-        self.plus(Limbs::from_words(lo, hi, top)).times(r)
+        let added = Limbs::from_words(word_at(block, 0), word_at(block, 8), top);
+        self.plus(added).times(r)
     }
 
     // The lowest 128 bits of the number modulo the prime.
     pub(crate) fn reduced(self) -> u128
-        requires { Carried self }
         ensures { result ≡ (value self % prime) % 2 ^ 128 }
     {
         // With 5 added, a number that reaches the prime passes 130 bits.
@@ -123,30 +122,43 @@ impl Limbs {
     }
 }
 
+impl Sum {
+    ghost use Rattle.poly1305.specs.Limbs.{value, total};
+
+    fn times(self, r: Limbs) -> Limbs
+        ensures { value result % prime ≡ (total self * value r) % prime }
+    {
+        let s1 = 5 * r.l1;
+        let s2 = 5 * r.l2;
+        let s3 = 5 * r.l3;
+        let s4 = 5 * r.l4;
+        Limbs::carry(
+            self.dot(r.l0, s4, s3, s2, s1),
+            self.dot(r.l1, r.l0, s4, s3, s2),
+            self.dot(r.l2, r.l1, r.l0, s4, s3),
+            self.dot(r.l3, r.l2, r.l1, r.l0, s4),
+            self.dot(r.l4, r.l3, r.l2, r.l1, r.l0),
+        )
+    }
+
+    // The sum of the limbs' products with five factors.
+    fn dot(self, a: u64, b: u64, c: u64, d: u64, e: u64) -> u64
+        requires { (a < 2 ^ 29) × ((b < 2 ^ 29) × ((c < 2 ^ 29) × ((d < 2 ^ 29) × (e < 2 ^ 29)))) }
+        ensures value { result ≡ self.l0 * a + self.l1 * b + self.l2 * c + self.l3 * d + self.l4 * e }
+        ensures below { result < 2 ^ 61 }
+    {
+        product(self.l0, a)
+            + product(self.l1, b)
+            + product(self.l2, c)
+            + product(self.l3, d)
+            + product(self.l4, e)
+    }
+}
+
 fn product(a: u64, b: u64) -> u64
     requires { (a < 2 ^ 28) × (b < 2 ^ 29) }
     ensures value { result ≡ a * b }
     ensures below { result < 2 ^ 57 }
 {
     a * b
-}
-
-// Each sum passes what it has above 26 bits on to the next one, and the last passes it, five times, to the first.
-fn carry(d0: u64, d1: u64, d2: u64, d3: u64, d4: u64) -> Limbs
-    requires { (d0 < 2 ^ 61) × ((d1 < 2 ^ 61) × ((d2 < 2 ^ 61) × ((d3 < 2 ^ 61) × (d4 < 2 ^ 61)))) }
-    ensures carried { Carried result }
-    ensures value { value result % prime ≡ number d0 d1 d2 d3 d4 % prime }
-{
-    let e1 = d1 + (d0 >> LIMB_BITS);
-    let e2 = d2 + (e1 >> LIMB_BITS);
-    let e3 = d3 + (e2 >> LIMB_BITS);
-    let e4 = d4 + (e3 >> LIMB_BITS);
-    let e0 = (d0 & LIMB_MASK) + 5 * (e4 >> LIMB_BITS);
-    Limbs {
-        l0: e0 & LIMB_MASK,
-        l1: (e1 & LIMB_MASK) + (e0 >> LIMB_BITS),
-        l2: e2 & LIMB_MASK,
-        l3: e3 & LIMB_MASK,
-        l4: e4 & LIMB_MASK,
-    }
 }

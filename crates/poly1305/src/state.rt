@@ -1,5 +1,3 @@
-ghost use Rattle.poly1305.specs.Limbs.{Carried};
-
 use crate::limbs::Limbs;
 
 // A Poly1305 under way: the accumulator, the clamped half of the key, and the half that is added last. The caller holds it in
@@ -10,6 +8,4 @@ pub struct Poly1305 {
     pub(crate) r: Limbs,
     pub(crate) s0: u64,
     pub(crate) s1: u64,
-    ghost carried: { Carried acc },
-    ghost clamped: { Carried r },
 }

@@ -1,5 +1,5 @@
 -- Laws of records and of the lists that they are written into.
-use Rattle.std.proofs.Common.{◌≡◌, ℕ, ◌+◌, ◌-◌, ◌/◌, ◌%◌, ◌≤◌, Bool, true, false, cond, List, ◌++◌, length, take, drop, sym, refl, ap, ◌∙◌, arith}
+use Rattle.std.proofs.Common.{◌≡◌, ℕ, ◌+◌, ◌-◌, ◌≤◌, Bool, true, false, cond, List, [], ◌++◌, length, take, drop, sym, refl, ap, ◌∙◌, arith}
 use Rattle.std.proofs.lemmas.List.{take_at, drop_at, drop-drop, append_assoc}
 use Rattle.records.specs.Format.{key, content, out, be2, be4, head, encode}
 use borrow.Rule.Slice.PartMut.{put_mid, post_of}
@@ -23,23 +23,15 @@ pub append_undone : {X : Type 0} {one two three : List X} {b : Bool} (n : ℕ) (
 append_undone {one} {two} {three} {b} n was xs ys p t e q l =
     q ∙ ap (take n) (e ∙ ap (λ v. cond v (one ++ ys) one) t ∙ p) ∙ take_at was xs n l ∙ sym (ap (λ v. cond v (was ++ (xs ++ ys)) was) t)
 
--- Two bytes hold a number's lowest 16 bits.
-pub be2_low : (x : ℕ) → be2 (x % 65536) ≡ be2 x
-unfolding be2
-be2_low x =
-    let a : x % 65536 / 256 % 256 ≡ x / 256 % 256 = omega arith in
-    let b : x % 65536 % 256 ≡ x % 256 = omega arith in
-    rw (a, b)
+-- The bytes of a record, written in two parts.
+pub encode-key : (node number under : ℕ) (front sealed : List ℕ) → front ≡ head 75 node number ++ (be4 under ++ []) → front ++ sealed ≡ encode (key node number under sealed)
+unfolding encode head be4
+encode-key node number under front sealed e = ap (λ x. x ++ sealed) e
 
--- The bytes of a record, grouped as they are written.
-pub encode-key : (node number under : ℕ) (sealed : List ℕ) → encode (key node number under sealed) ≡ (head 75 node number ++ be4 under) ++ sealed
-unfolding encode
-encode-key node number under sealed = sym (append_assoc (head 75 node number) (be4 under) sealed)
+pub encode-content : (node number : ℕ) (front sealed : List ℕ) → front ≡ head 67 node number ++ (be2 (length sealed - 16) ++ []) → front ++ sealed ≡ encode (content node number sealed)
+unfolding encode head be4 be2
+encode-content node number front sealed e = ap (λ x. x ++ sealed) e
 
-pub encode-content : (node number : ℕ) (sealed : List ℕ) → encode (content node number sealed) ≡ (head 67 node number ++ be2 (length sealed - 16)) ++ sealed
-unfolding encode
-encode-content node number sealed = sym (append_assoc (head 67 node number) (be2 (length sealed - 16)) sealed)
-
-pub encode-out : (node next : ℕ) → encode (out node next) ≡ head 69 node next
+pub encode-out : (node next : ℕ) → head 69 node next ≡ encode (out node next)
 unfolding encode
 encode-out node next = refl

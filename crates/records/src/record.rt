@@ -23,13 +23,11 @@ pub const KEY_BYTES: usize = 61;
 
 pub const LONGEST_CONTENT: u16 = 4096;
 
-// The highest number that a key can have, and the most levels that a tree can have.
+// The highest number that a key can have.
 pub const HIGHEST: u32 = 4_294_967_294;
 
-pub const MOST_LEVELS: u32 = 20;
-
 // A record, with the bytes of the medium that it was read from.
-#[derive(Clone, Copy)]
+#[derive(Clone, Copy, PartialEq, Eq, Debug)]
 pub enum Record<'a> {
     Key {
         node: u32,
@@ -48,10 +46,14 @@ pub enum Record<'a> {
     },
 }
 
-// What stands at the front of a string of bytes: a record and the rest; one that ends too early; or another form.
-#[derive(Clone, Copy)]
-pub enum Decoded<'a> {
-    One(Record<'a>, &'a [u8]),
+// Why no record stands at the front of a string of bytes.
+#[derive(Clone, Copy, PartialEq, Eq, Debug)]
+pub enum Undecoded {
+    // One ends too early.
     Ends,
+    // They have another form.
     Other,
 }
+
+// What stands at the front of a string of bytes: a record and the rest.
+pub type Decoded<'a> = Result<(Record<'a>, &'a [u8]), Undecoded>;

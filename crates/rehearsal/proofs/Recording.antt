@@ -8,7 +8,7 @@ use Rattle.forgetting.specs.Tree.{Tree}
 use Rattle.forgetting.specs.Change.{records, single, draws, counted, Numbered}
 use Rattle.forgetting.specs.History.{root}
 use Rattle.tree.specs.Nodes.{sibling_of}
-use Rattle.change.specs.declared.node.Node.{Node}
+use Rattle.change.specs.declared.node.NodeKey.{NodeKey}
 use Rattle.change.specs.Coded.{bytes_of}
 use Rattle.change.specs.Nodes.{key_in, bytes_in}
 use Rattle.change.specs.Outcome.{Siblings}
@@ -20,16 +20,16 @@ use Rattle.rehearsal.specs.Changes.{Recorded}
 pub half_more : (start h node up : ℕ) → node ≡ start / 2 ^ h → up ≡ node / 2 → up ≡ start / 2 ^ (h + 1)
 half_more start h node up e u = u ∙ rw (e, add-one h, pow-suc 2 h) (div-div-eq-div-mul start (2 ^ h) 2)
 
-pub no_sibling : (start : ℕ) (numbers : List (Option ℕ)) (nodes : List Node) → nodes ≡ [] → map key_in nodes ≡ siblings_of start numbers 0
+pub no_sibling : (start : ℕ) (numbers : List (Option ℕ)) (nodes : List (Option NodeKey)) → nodes ≡ [] → map key_in nodes ≡ siblings_of start numbers 0
 unfolding siblings_of
 no_sibling start numbers nodes e = ap (map key_in) e
 
-pub one_sibling : (start h : ℕ) (numbers : List (Option ℕ)) (nodes : List Node) (node : Node) → map key_in nodes ≡ siblings_of start numbers h → key_in node ≡ keyed (get_or numbers (sibling_of (start / 2 ^ h)) None)
+pub one_sibling : (start h : ℕ) (numbers : List (Option ℕ)) (nodes : List (Option NodeKey)) (node : Option NodeKey) → map key_in nodes ≡ siblings_of start numbers h → key_in node ≡ keyed (get_or numbers (sibling_of (start / 2 ^ h)) None)
     → map key_in (nodes ++ node ∷ []) ≡ siblings_of start numbers (h + 1)
 unfolding siblings_of
-one_sibling start h numbers nodes node e d = rw (map-append, add-one, e, d)
+one_sibling start h numbers nodes one e d = rw (map-append, add-one, e, d)
 
-pub recorded : (levels place last : ℕ) (w : Option (List ℕ)) (keys : List Key) (nodes : List Node) (numbers : List (Option ℕ)) (before after : List ℕ)
+pub recorded : (levels place last : ℕ) (w : Option (List ℕ)) (keys : List Key) (nodes : List (Option NodeKey)) (numbers : List (Option ℕ)) (before after : List ℕ)
     → map (λ (k : Key). k.bytes) keys ≡ keys_after last (draws w levels) → map key_in nodes ≡ siblings_of (2 ^ levels + place) numbers levels → before ≡ []
     → ((t : Tree Numbered (List ℕ)) → Siblings levels place t nodes → after ≡ before ++ bytes_of transparent levels (records (last + 1) (root levels) (single w (counted w last (bytes_in keys)) levels place) t))
     → Recorded levels place last w numbers after

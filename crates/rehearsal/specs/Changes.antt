@@ -6,7 +6,7 @@ use Rattle.forgetting.specs.Change.{records, single, draws, counted, Numbered}
 use Rattle.forgetting.specs.Climb.{sibling_key}
 use Rattle.forgetting.specs.History.{root}
 use Rattle.change.specs.Coded.{bytes_of}
-use Rattle.rehearsal.specs.declared.failure.Failure.{Failure}
+use Rattle.change.specs.declared.failure.Failure.{Failure}
 use Rattle.rehearsal.specs.declared.state.Rehearsal.{Rehearsal}
 use Rattle.rehearsal.specs.Keys.{keys_after}
 use Rattle.rehearsal.specs.Levels.{levels_of}

@@ -8,7 +8,8 @@ ghost use Rattle.sealing.specs.declared.key.Key.{Key as Secret};
 use crate::keys;
 use crate::keys::key_of;
 use crate::numbers::Numbers;
-use change::node::{Held, Node};
+use change::node;
+use change::node::NodeKey;
 use sealing::key::Key;
 use std::alloc::{AllocError, Global};
 use tree::node::NodeId;
@@ -16,23 +17,18 @@ use tree::node::NodeId;
 // The keys that it draws, and the siblings along the path, from the place up.
 pub struct Given {
     pub keys: Vec<Key>,
-    pub siblings: Vec<Node>,
+    pub siblings: Vec<Option<NodeKey>>,
 }
 
-// A node with the key of that number, or without a key.
-fn node_of(number: Option<u32>) -> Node
+// The key of that number, as far as there is one.
+fn node_of(number: Option<u32>) -> Option<NodeKey>
     ensures { key_in result ≡ keyed number }
 {
-    match number {
-        Some(number) => {
-            let held = Held::Secret(key_of(u64::from(number)));
-            Node { number, held }
-        }
-        None => Node {
-            number: 0,
-            held: Held::Nothing,
-        },
-    }
+    let number = number?;
+    Some(NodeKey {
+        number,
+        key: key_of(u64::from(number)),
+    })
 }
 
 // The siblings along the path from a node up.
@@ -41,7 +37,7 @@ fn siblings(
     numbers: &Numbers,
     start: NodeId,
     levels: u32,
-) -> Result<Vec<Node>, AllocError>
+) -> Result<Vec<Option<NodeKey>>, AllocError>
     ensures { IfOk result (λ nodes. (vec_len nodes ≡ levels) × (map key_in nodes.items ≡ siblings_of start.number numbers.now.0 levels)) }
 {
     let mut nodes = Vec::with_capacity(heap, levels as usize)?;
@@ -51,17 +47,6 @@ fn siblings(
         node = node.parent();
     }
     Ok(nodes)
-}
-
-// Wipes the nodes' keys and lets them go.
-fn let_go(mut nodes: Vec<Node>) {
-    while let Some(Node { number: _, held }) = nodes.pop() {
-        match held {
-            Held::Nothing => {}
-            Held::Secret(mut key) => key.wipe(),
-        }
-    }
-    nodes.destroy_empty();
 }
 
 impl Given {
@@ -80,7 +65,7 @@ impl Given {
         match keys::draw(heap, last, count) {
             Ok(keys) => Ok(Given { keys, siblings }),
             Err(error) => {
-                let_go(siblings);
+                node::let_go(siblings);
                 Err(error)
             }
         }
@@ -90,6 +75,6 @@ impl Given {
     pub fn wipe(self) {
         let Given { keys, siblings } = self;
         keys::let_go(keys);
-        let_go(siblings);
+        node::let_go(siblings);
     }
 }

@@ -1,7 +1,6 @@
 // A rehearsal: the proved changes on a small tree, with numbers for keys and sealing that hides nothing.
 #![tactic(auto)]
 
-pub mod failure;
 pub mod given;
 pub mod keys;
 pub mod levels;

@@ -1,7 +1,7 @@
 // Records in readable form.
 use crate::levels::Levels;
 use records::decode::decode;
-use records::record::{Decoded, Record};
+use records::record::{Decoded, Record, Undecoded};
 use std::fmt;
 
 // Bytes as hex.
@@ -64,13 +64,13 @@ impl<'a> Front<'a> {
 impl fmt::Display for Front<'_> {
     fn fmt<W: fmt::Write>(&self, f: &mut fmt::Formatter<W>) -> fmt::Result {
         match self.0 {
-            Decoded::One(record, rest) => {
+            Ok((record, rest)) => {
                 let told = Told(record);
                 let left = rest.len();
                 write!(f, "{told}; rest {left}")
             }
-            Decoded::Ends => f.write_str("ends too early"),
-            Decoded::Other => f.write_str("another form"),
+            Err(Undecoded::Ends) => f.write_str("ends too early"),
+            Err(Undecoded::Other) => f.write_str("another form"),
         }
     }
 }
@@ -86,7 +86,7 @@ pub struct Written<'a> {
 impl fmt::Display for Written<'_> {
     fn fmt<W: fmt::Write>(&self, f: &mut fmt::Formatter<W>) -> fmt::Result {
         let mut rest = self.bytes;
-        while let Decoded::One(record, after) = decode(self.levels, rest) {
+        while let Ok((record, after)) = decode(self.levels, rest) {
             let told = Told(record);
             write!(f, "{told}; ")?;
             rest = after;

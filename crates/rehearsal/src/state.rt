@@ -3,11 +3,12 @@ ghost use Rattle.std.specs.Prelude.{◌≡◌, ◌+◌, ◌^◌, ◌<◌, ◌≤
 ghost use Rattle.rehearsal.specs.Changes.{Recorded, Put, Taken};
 ghost use Rattle.rehearsal.specs.Levels.{levels_of};
 
-use crate::failure::Failure;
 use crate::given::Given;
 use crate::levels::Levels;
 use crate::numbers::Numbers;
 use crate::readable::Written;
+use change::failure::Failure;
+use change::keys::Drawn;
 use cipher::transparent::Transparent;
 use std::alloc::Global;
 use tree::answer::Refusal;
@@ -34,10 +35,8 @@ fn leaf(levels: u32, place: u32) -> Result<NodeId, Failure>
     requires { levels ≤ 3 }
     ensures { IfOk result (λ node. (node.number ≡ 2 ^ levels + place) × (node.number < 16)) }
 {
-    match place_node(levels, place) {
-        Some(node) => Ok(node),
-        None => Err(Failure::Refused(Refusal::NoSuchPlace)),
-    }
+    let node = place_node(levels, place).ok_or(Refusal::NoSuchPlace)?;
+    Ok(node)
 }
 
 impl Rehearsal {
@@ -98,8 +97,10 @@ impl Rehearsal {
             levels,
             place,
             content,
-            &given.keys,
-            self.last,
+            Drawn {
+                keys: &given.keys,
+                last: self.last,
+            },
             &given.siblings,
             &mut [0; PART],
             &mut room,
@@ -125,8 +126,10 @@ impl Rehearsal {
             &mut Transparent,
             levels,
             place,
-            &given.keys,
-            self.last,
+            Drawn {
+                keys: &given.keys,
+                last: self.last,
+            },
             &given.siblings,
             &mut [0; PART],
             out,

@@ -6,8 +6,8 @@ use Rattle.seal_commands.specs.declared.Command.TheVariants.{Seal, Open, Block, 
 use Rattle.fields.specs.declared.faults.Failure.{Failure}
 
 abbrev pub Answered : {X : Type 0} → (X → List ℕ) → Command → Result X Failure → Type 0
-Answered items (Seal key nonce marked content) r = Sealed items key.bytes nonce.0 (vec_items marked) (vec_items content) r
-Answered items (Open key nonce marked sealed) r = Opened items key.bytes nonce.0 (vec_items marked) (vec_items sealed) r
+Answered items (Seal text) r = Sealed items text.key.bytes text.nonce.0 (vec_items text.marked) (vec_items text.text) r
+Answered items (Open text) r = Opened items text.key.bytes text.nonce.0 (vec_items text.marked) (vec_items text.text) r
 Answered items (Block key counter nonce) r = Blocked items key.bytes counter nonce.0 r
 Answered items (Stream key counter nonce content) r = Streamed items key.bytes counter nonce.0 (vec_items content) r
 Answered items (Once key nonce) r = Given items key.bytes nonce.0 r

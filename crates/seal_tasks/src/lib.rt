@@ -6,13 +6,13 @@ ghost use Rattle.seal_tasks.specs.Runs.{Answered};
 ghost use Rattle.seal_tasks.specs.Tasks.{Sealed, Opened, Blocked, Streamed, Given, Marked};
 ghost use Rattle.seal_tasks.specs.Clear.{Clear};
 
-use chacha20::stream::{Stream, TooLong};
-use fields::faults::{Failure, Refusal};
+use chacha20::stream::Stream;
+use fields::faults::Failure;
 use poly1305::{Poly1305, mac};
-use seal_commands::Command;
+use seal_commands::{Command, Text};
 use sealing::aead;
 use sealing::key::Key;
-use sealing::opening::{Mark, Nonce, Opening};
+use sealing::opening::{DoesNotOpen, Mark, Nonce};
 use sealing::workspace::Workspace;
 use std::alloc::Global;
 
@@ -27,12 +27,11 @@ pub struct Work {
     sealing: Workspace,
     stream: Stream,
     mark: Poly1305,
+    ghost clear: { Clear sealing stream mark },
 }
 
 impl Work {
-    pub fn new() -> Work
-        ensures { Clear result }
-    {
+    pub fn new() -> Work {
         Work {
             sealing: Workspace::new(),
             stream: Stream::new(),
@@ -48,12 +47,9 @@ impl Work {
         marked: &[u8],
         mut content: Vec<u8>,
     ) -> Result<Vec<u8>, Failure>
-        ensures value { Sealed vec_items key.now.bytes nonce.now.0 marked.now content.items result }
-        ensures wiped { Clear self.old → Clear self.new }
+        ensures { Sealed vec_items key.now.bytes nonce.now.0 marked.now content.items result }
     {
-        let Ok(mark) = aead::seal(key, nonce, marked, &mut content, &mut self.sealing) else {
-            return Err(Failure::Refused(Refusal::TooLong));
-        };
+        let mark = aead::seal(key, nonce, marked, &mut content, &mut self.sealing)?;
         content.extend_from_slice(&mark.0)?;
         Ok(content)
     }
@@ -66,19 +62,13 @@ impl Work {
         marked: &[u8],
         mut sealed: Vec<u8>,
     ) -> Result<Vec<u8>, Failure>
-        ensures value { Opened vec_items key.now.bytes nonce.now.0 marked.now sealed.items result }
-        ensures wiped { Clear self.old → Clear self.new }
+        ensures { Opened vec_items key.now.bytes nonce.now.0 marked.now sealed.items result }
     {
-        let Some((content, mark)) = sealed.split_last_chunk::<16>() else {
-            return Err(Refusal::DoesNotOpen.into());
-        };
+        let (content, mark) = sealed.split_last_chunk::<16>().ok_or(DoesNotOpen)?;
         let length = content.len();
         let mark = Mark(*mark);
         sealed.truncate(length);
-        let Opening::Opened = aead::open(key, nonce, marked, &mut sealed, &mark, &mut self.sealing)
-        else {
-            return Err(Refusal::DoesNotOpen.into());
-        };
+        aead::open(key, nonce, marked, &mut sealed, &mark, &mut self.sealing)?;
         Ok(sealed)
     }
 
@@ -90,8 +80,7 @@ impl Work {
         counter: u32,
         nonce: &Nonce,
     ) -> Result<Vec<u8>, Failure>
-        ensures value { Blocked vec_items key.now.bytes counter nonce.now.0 result }
-        ensures wiped { Clear self.old → Clear self.new }
+        ensures { Blocked vec_items key.now.bytes counter nonce.now.0 result }
     {
         let mut block = [0; BLOCK];
         self.stream
@@ -107,22 +96,16 @@ impl Work {
         nonce: &Nonce,
         mut content: Vec<u8>,
     ) -> Result<Vec<u8>, Failure>
-        ensures value { Streamed vec_items key.now.bytes counter nonce.now.0 content.items result }
-        ensures wiped { Clear self.old → Clear self.new }
+        ensures { Streamed vec_items key.now.bytes counter nonce.now.0 content.items result }
     {
-        let done = self
-            .stream
-            .encrypt(key.as_bytes(), counter, &nonce.0, &mut content);
-        match done {
-            Ok(()) => Ok(content),
-            Err(TooLong) => Err(Failure::Refused(Refusal::TooLong)),
-        }
+        self.stream
+            .encrypt(key.as_bytes(), counter, &nonce.0, &mut content)?;
+        Ok(content)
     }
 
     // The one-time key of a key and a nonce: the first half of block 0.
     fn once(&mut self, heap: Global, key: &Key, nonce: &Nonce) -> Result<Vec<u8>, Failure>
-        ensures value { Given vec_items key.now.bytes nonce.now.0 result }
-        ensures wiped { Clear self.old → Clear self.new }
+        ensures { Given vec_items key.now.bytes nonce.now.0 result }
     {
         let mut once = self.block(heap, key, 0, nonce)?;
         once.truncate(ONCE);
@@ -131,8 +114,7 @@ impl Work {
 
     // The mark of a message.
     fn mark(&mut self, heap: Global, once: &Key, message: &[u8]) -> Result<Vec<u8>, Failure>
-        ensures value { Marked vec_items once.now.bytes message.now result }
-        ensures wiped { Clear self.old → Clear self.new }
+        ensures { Marked vec_items once.now.bytes message.now result }
     {
         let tag = mac(once.as_bytes(), message, &mut self.mark);
         Ok(Vec::from_slice(heap, &tag)?)
@@ -150,22 +132,25 @@ fn after_wiping(answer: Result<Vec<u8>, Failure>, mut key: Key) -> Result<Vec<u8
 impl Work {
     // Carries the command out. The key is wiped, however it goes.
     pub fn run(&mut self, heap: Global, command: Command) -> Result<Vec<u8>, Failure>
-        ensures value { Answered vec_items command result }
-        ensures wiped { Clear self.old → Clear self.new }
+        ensures { Answered vec_items command result }
     {
         match command {
-            Command::Seal {
-                key,
-                nonce,
-                marked,
-                content,
-            } => after_wiping(self.seal(&key, &nonce, &marked, content), key),
-            Command::Open {
-                key,
-                nonce,
-                marked,
-                sealed,
-            } => after_wiping(self.open(&key, &nonce, &marked, sealed), key),
+            Command::Seal(
+                Text {
+                    key,
+                    nonce,
+                    marked,
+                    text,
+                },
+            ) => after_wiping(self.seal(&key, &nonce, &marked, text), key),
+            Command::Open(
+                Text {
+                    key,
+                    nonce,
+                    marked,
+                    text,
+                },
+            ) => after_wiping(self.open(&key, &nonce, &marked, text), key),
             Command::Block {
                 key,
                 counter,

@@ -1,5 +1,5 @@
 -- Laws of sealing, and lemmas on the parts that a mark is made of.
-use Rattle.std.proofs.Common.{◌≡◌, ℕ, ◌+◌, List, ◌++◌, length, take, drop, Ok, Err, Result, refl, ap, ◌∙◌, arith}
+use Rattle.std.proofs.Common.{◌≡◌, ℕ, ◌+◌, ◌≤◌, List, ◌++◌, length, take, drop, Ok, Err, Result, refl, ap, ◌∙◌, arith, rules}
 use Rattle.std.proofs.lemmas.List.{append-nil, take_at, drop_all, length-append, length-drop}
 use Rattle.chacha20.specs.Stream.{Encrypts}
 use Rattle.octets.specs.Endian.{le, le_bytes}
@@ -7,7 +7,9 @@ use Rattle.octets.proofs.Laws.{length-le_bytes}
 use Rattle.chacha20.proofs.Laws.{length-encrypt, encrypt_twice}
 use Rattle.poly1305.specs.Poly1305.{clamp, blocks, padded}
 use Rattle.poly1305.proofs.Laws.{mac-padded, length-mac}
-use Rattle.sealing.specs.Aead.{one_time_key, ciphertext, mac_data, tag, longest, Applies, RoundTrip}
+use Rattle.sealing.specs.Aead.{one_time_key, ciphertext, mac_data, tag, longest, Applies, Seals, RoundTrip}
+use Rattle.sealing.specs.declared.opening.Mark.{Mark}
+use Rattle.std.specs.Result.{IsOk}
 use Rattle.sealing.specs.Work.{absorbed_text}
 
 -- Two words written one after the other into sixteen bytes.
@@ -65,3 +67,8 @@ pub applied : {X E : Type 0} (key nonce text : List ℕ) (r : Result X E) (after
 unfolding ciphertext longest
 applied key nonce text (Ok x) after p = (omega arith, p.1)
 applied key nonce text (Err e) after p = (omega arith, p.1)
+
+-- A text that the standard allows is sealed.
+pub seals : {E : Type 0} (key nonce marked text : List ℕ) (r : Result Mark E) (after : List ℕ) → length text ≤ longest → Seals key nonce marked text r after → IsOk r
+seals key nonce marked text (Ok mark) after h s = search rules
+seals key nonce marked text (Err e) after h s = absurd (omega arith)

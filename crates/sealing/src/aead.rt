@@ -6,21 +6,21 @@ ghost use Rattle.sealing.specs.Open.{Comes};
 ghost use Rattle.sealing.specs.Work.{Idle};
 
 use crate::key::Key;
-use crate::opening::{Mark, Nonce, Opening};
+use crate::opening::{DoesNotOpen, Mark, Nonce};
 use crate::workspace::Workspace;
 use chacha20::stream::TooLong;
 
 // The counter of the text's first block; block 0 makes the one-time key.
 const FIRST: u32 = 1;
 
-// The bits in which two marks differ, all bytes taken together. Every byte is read, whatever the others are.
+// The bits in which two marks differ, all bytes taken together. Every byte is read, whatever the others are: marks are never compared by `==`, which may stop at the first difference and so tells by its time how much of a forged mark is right.
 fn difference(a: &[u8; 16], b: &[u8; 16]) -> u8
     ensures none { result ≡ 0 → (k : ℕ) → k < 16 → slice_index a.now k ≡ slice_index b.now k }
     ensures same { a.now ≡ b.now → result ≡ 0 }
 {
     let mut bits = 0;
-    for i in 0..16usize {
-        bits |= a[i] ^ b[i];
+    for (x, y) in a.iter().zip(b) {
+        bits |= *x ^ *y;
     }
     bits
 }
@@ -57,10 +57,10 @@ pub fn seal(
     ensures value { Seals key.now.bytes nonce.now.0 marked.now text.old result text.new }
     ensures wiped { Idle work.new }
 {
-    let Ok(()) = work.apply(key, nonce, text) else {
+    if let Err(why) = work.apply(key, nonce, text) {
         work.wipe();
-        return Err(TooLong);
-    };
+        return Err(why);
+    }
     Ok(Mark(work.tag(key.as_bytes(), &nonce.0, marked, text)))
 }
 
@@ -72,16 +72,13 @@ pub fn open(
     sealed: &mut [u8],
     mark: &Mark,
     work: &mut Workspace,
-) -> Opening
+) -> Result<(), DoesNotOpen>
     ensures value { Comes key.now.bytes nonce.now.0 marked.now sealed.old mark.now.0 result sealed.new }
     ensures wiped { Idle work.new }
 {
     let made = work.tag(key.as_bytes(), &nonce.0, marked, sealed);
     if !agree(&made, &mark.0) {
-        return Opening::Shut;
+        return Err(DoesNotOpen);
     }
-    let Ok(()) = work.apply(key, nonce, sealed) else {
-        return Opening::Shut;
-    };
-    Opening::Opened
+    work.apply(key, nonce, sealed).map_err(|_| DoesNotOpen)
 }

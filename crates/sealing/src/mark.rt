@@ -16,8 +16,8 @@ fn lengths(marked: usize, sealed: usize) -> [u8; 16]
     ensures { result ≡ le_bytes 8 marked ++ le_bytes 8 sealed }
 {
     let mut out = [0; 16];
-    octets::put_u64(&mut out, 0, marked as u64);
-    octets::put_u64(&mut out, 8, sealed as u64);
+    octets::put_word(&mut out, 0, marked as u64);
+    octets::put_word(&mut out, 8, sealed as u64);
     out
 }
 

@@ -1,4 +1,4 @@
-// Nonces, marks, and what opening comes to.
+// Nonces, marks, and the error of opening.
 
 // What tells apart the texts that are sealed under one key.
 #[derive(Clone, Copy, PartialEq, Eq, Debug)]
@@ -8,11 +8,6 @@ pub struct Nonce(pub [u8; 12]);
 #[derive(Clone, Copy)]
 pub struct Mark(pub [u8; 16]);
 
-// What opening comes to.
+// The mark doesn't agree, and nothing was written.
 #[derive(Clone, Copy, PartialEq, Eq, Debug)]
-pub enum Opening {
-    // The text stands in the lent buffer.
-    Opened,
-    // The mark doesn't agree, and nothing was written.
-    Shut,
-}
+pub struct DoesNotOpen;

@@ -13,6 +13,14 @@ pub struct Chance {
     pub(crate) keys: Vec<Key>,
 }
 
+impl Drop for Chance {
+    fn drop(self) {
+        let Chance { mut keys } = self;
+        empty(&mut keys);
+        keys.destroy_empty();
+    }
+}
+
 // Lets keys go; zeros are written over them first.
 fn empty(keys: &mut Vec<Key>)
     ensures { vec_len keys.new ≡ 0 }
@@ -50,12 +58,5 @@ impl Chance {
         ensures { vec_len self.new.keys ≡ 0 }
     {
         empty(&mut self.keys);
-    }
-
-    // The end of it.
-    pub fn let_go(self) {
-        let Chance { mut keys } = self;
-        empty(&mut keys);
-        keys.destroy_empty();
     }
 }

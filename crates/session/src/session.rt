@@ -1,12 +1,13 @@
 // A store on two files, and the keys for its next change.
+ghost use Rattle.std.specs.Prelude.{◌≡◌, IfOk, IfSome, vec_len};
+
 use crate::chance::{Chance, MOST_KEYS};
-use crate::texts::failed;
+use crate::texts::Undone;
 use cipher::standard::Standard;
 use descent::failure::Failure;
 use files::chip::FileChip;
 use files::medium::FileMedium;
 use std::alloc::{AllocError, Global};
-use storage::reading::Reading;
 use storage::seat::Seat;
 use storage::state::Store;
 use words::numbers::counter;
@@ -26,7 +27,9 @@ pub struct Session {
 }
 
 // The 32 bytes of a key that a word has in hex.
-fn key_bytes(heap: Global, word: &[u8]) -> Result<Option<Vec<u8>>, AllocError> {
+fn key_bytes(heap: Global, word: &[u8]) -> Result<Option<Vec<u8>>, AllocError>
+    ensures { IfOk result (λ key. IfSome key (λ bytes. vec_len bytes ≡ 32)) }
+{
     let Some(mut bytes) = hex_text::decode(heap, word)? else {
         return Ok(None);
     };
@@ -37,35 +40,29 @@ fn key_bytes(heap: Global, word: &[u8]) -> Result<Option<Vec<u8>>, AllocError> {
     Ok(Some(bytes))
 }
 
-// Whether each word is a key.
-fn are_keys(heap: Global, words: &[&[u8]]) -> Result<bool, AllocError> {
+// The keys that words have; none where one has no key.
+fn keys_of(heap: Global, words: &[&[u8]]) -> Result<Option<Chance>, AllocError> {
+    let mut chance = Chance::new(heap)?;
     for word in words {
         let Some(mut bytes) = key_bytes(heap, word)? else {
-            return Ok(false);
+            return Ok(None);
         };
-        octets::wipe(&mut bytes);
+        chance.add(&mut bytes);
     }
-    Ok(true)
+    Ok(Some(chance))
 }
 
-fn words_of(heap: Global, text: &str) -> Result<String, AllocError> {
-    String::from_str(heap, text)
+fn place_of(word: &[u8]) -> Result<u32, Undone> {
+    counter(word).ok_or(Undone::Malformed("a place is a number"))
 }
 
 impl Session {
     // Over an empty medium and a chip that was never given a key.
     pub fn new(heap: Global, medium: FileMedium, chip: FileChip) -> Result<Session, Failure> {
-        let Ok(cipher) = Standard::new(heap) else {
-            return Err(Failure::Memory);
-        };
-        let Ok(buffer) = vec![in heap; 0; BUFFER] else {
-            return Err(Failure::Memory);
-        };
+        let cipher = Standard::new(heap)?;
+        let buffer = vec![in heap; 0; BUFFER]?;
+        let chance = Chance::new(heap)?;
         let store = Store::new(heap, cipher, medium, chip, LEVELS)?;
-        let Ok(chance) = Chance::new(heap) else {
-            let (_medium, _seat) = store.into_devices();
-            return Err(Failure::Memory);
-        };
         Ok(Session {
             heap,
             store,
@@ -74,89 +71,66 @@ impl Session {
         })
     }
 
+    fn done(&self) -> Result<String, Undone> {
+        Ok(String::from_str(self.heap, "ok")?)
+    }
+
     // Keys for the next change, in place of those that were there.
-    fn take_chance(&mut self, words: &[&[u8]]) -> Result<String, AllocError> {
-        if words.len() > MOST_KEYS || !are_keys(self.heap, words)? {
-            return words_of(self.heap, "malformed: up to 64 keys, each 64 digits of hex");
+    fn take_chance(&mut self, words: &[&[u8]]) -> Result<String, Undone> {
+        let malformed = Undone::Malformed("up to 64 keys, each 64 digits of hex");
+        if words.len() > MOST_KEYS {
+            return Err(malformed);
         }
-        self.chance.clear();
-        for word in words {
-            if let Some(mut bytes) = key_bytes(self.heap, word)? {
-                if bytes.len() == 32 {
-                    self.chance.add(&mut bytes);
-                }
-            }
-        }
-        words_of(self.heap, "ok")
+        self.chance = keys_of(self.heap, words)?.ok_or(malformed)?;
+        self.done()
     }
 
     // The keys are gone once a change is answered, and still there where it was refused.
-    fn change_answered(&mut self, answer: Result<(), Failure>) -> Result<String, AllocError> {
-        match answer {
-            Ok(()) => {
-                self.chance.clear();
-                words_of(self.heap, "ok")
-            }
-            Err(Failure::Stopped) => {
-                self.chance.clear();
-                failed(self.heap, Failure::Stopped)
-            }
-            Err(why) => failed(self.heap, why),
+    fn change_answered(&mut self, answer: Result<(), Failure>) -> Result<String, Undone> {
+        if let Ok(()) | Err(Failure::Stopped) = answer {
+            self.chance.clear();
         }
+        answer?;
+        self.done()
     }
 
-    fn put(&mut self, place: &[u8], content: &[u8]) -> Result<String, AllocError> {
-        let Some(place) = counter(place) else {
-            return words_of(self.heap, "malformed: a place is a number");
-        };
-        let Some(content) = hex_text::decode(self.heap, content)? else {
-            return words_of(self.heap, "malformed: a content is hex");
-        };
+    fn put(&mut self, place: &[u8], content: &[u8]) -> Result<String, Undone> {
+        let place = place_of(place)?;
+        let content = hex_text::decode(self.heap, content)?;
+        let content = content.ok_or(Undone::Malformed("a content is hex"))?;
         let answer = self.store.put(place, &content, &mut self.chance.keys);
         self.change_answered(answer)
     }
 
-    fn take_out(&mut self, place: &[u8]) -> Result<String, AllocError> {
-        let Some(place) = counter(place) else {
-            return words_of(self.heap, "malformed: a place is a number");
-        };
+    fn take_out(&mut self, place: &[u8]) -> Result<String, Undone> {
+        let place = place_of(place)?;
         let answer = self.store.take_out(place, &mut self.chance.keys);
         self.change_answered(answer)
     }
 
-    fn read(&mut self, place: &[u8]) -> Result<String, AllocError> {
-        let Some(place) = counter(place) else {
-            return words_of(self.heap, "malformed: a place is a number");
-        };
-        match self.store.read(place, &mut self.buffer) {
-            Reading::Content(n) => {
-                let Some(content) = self.buffer.get(0..n) else {
-                    return words_of(self.heap, "failed: the buffer is too short");
-                };
-                let text = hex_text::encode(self.heap, content);
-                octets::wipe(&mut self.buffer);
-                text
-            }
-            Reading::Failed(why) => failed(self.heap, why),
-        }
+    fn read(&mut self, place: &[u8]) -> Result<String, Undone> {
+        let place = place_of(place)?;
+        let n = self.store.read(place, &mut self.buffer)?;
+        let text = hex_text::encode(self.heap, &self.buffer[0..n]);
+        octets::wipe(&mut self.buffer);
+        Ok(text?)
     }
 
     // The answer to a line without its line feed; none to a blank one or a comment.
     pub fn answer(&mut self, line: &[u8]) -> Result<Option<String>, AllocError> {
         let words = split(self.heap, line)?;
-        let words = words.as_slice();
-        if words.len() == 0 || words[0].first() == Some(&b'#') {
-            return Ok(None);
-        }
-        let text = match words {
-            [b"chance", keys @ ..] => self.take_chance(keys)?,
-            [b"put", place, content] => self.put(place, content)?,
-            [b"out", place] => self.take_out(place)?,
-            [b"read", place] => self.read(place)?,
-            _ => words_of(
-                self.heap,
-                "malformed: chance KEY.., put PLACE HEX, out PLACE or read PLACE",
-            )?,
+        let answer = match words.as_slice() {
+            [] | [[b'#', ..], ..] => return Ok(None),
+            [b"chance", keys @ ..] => self.take_chance(keys),
+            [b"put", place, content] => self.put(place, content),
+            [b"out", place] => self.take_out(place),
+            [b"read", place] => self.read(place),
+            _ => Err(Undone::Malformed("chance KEY.., put PLACE HEX, out PLACE or read PLACE")),
+        };
+        let text = match answer {
+            Ok(text) => text,
+            Err(Undone::Memory) => return Err(AllocError),
+            Err(why) => format!(in self.heap; "{why}")?,
         };
         Ok(Some(text))
     }
@@ -166,10 +140,9 @@ impl Session {
         let Session {
             heap: _,
             store,
-            chance,
+            chance: _,
             buffer: _,
         } = self;
-        chance.let_go();
         let (_medium, _seat) = store.into_devices();
     }
 }

@@ -1,9 +1,33 @@
 // What is answered, in words.
 use descent::failure::Failure;
-use std::alloc::{AllocError, Global};
+use std::alloc::AllocError;
+use std::fmt;
 use tree::answer::Refusal;
 
-// A refusal by its number.
+// Why a command is not done.
+#[derive(Clone, Copy)]
+pub(crate) enum Undone {
+    // It has another form than this.
+    Malformed(&'static str),
+    // The store does not do it.
+    Failed(Failure),
+    // There is no memory for the answer.
+    Memory,
+}
+
+impl From<Failure> for Undone {
+    fn from(failure: Failure) -> Undone {
+        Undone::Failed(failure)
+    }
+}
+
+impl From<AllocError> for Undone {
+    fn from(_error: AllocError) -> Undone {
+        Undone::Memory
+    }
+}
+
+// A refusal in words.
 fn why(refusal: Refusal) -> &'static str {
     match refusal {
         Refusal::NoSuchPlace => "no such place, or no content that a place can hold",
@@ -16,19 +40,20 @@ fn why(refusal: Refusal) -> &'static str {
     }
 }
 
-// Why there is no answer.
-pub(crate) fn failed(heap: Global, failure: Failure) -> Result<String, AllocError> {
-    match failure {
-        Failure::Refused(refusal) => {
-            let number = refusal.number();
-            let words = why(refusal);
-            format!(in heap; "refused {number}: {words}")
+impl fmt::Display for Undone {
+    fn fmt<W: fmt::Write>(&self, f: &mut fmt::Formatter<W>) -> fmt::Result {
+        match *self {
+            Undone::Malformed(form) => write!(f, "malformed: {form}"),
+            Undone::Failed(Failure::Refused(refusal)) => {
+                write!(f, "refused {}: {}", refusal.number(), why(refusal))
+            }
+            Undone::Failed(Failure::Device) => f.write_str("failed: the medium can't be read"),
+            Undone::Failed(Failure::Stopped) => {
+                f.write_str("stopped: a device failed in the middle of a change")
+            }
+            Undone::Failed(Failure::Memory) | Undone::Memory => {
+                f.write_str("failed: there is no memory")
+            }
         }
-        Failure::Memory => String::from_str(heap, "failed: there is no memory"),
-        Failure::Device => String::from_str(heap, "failed: the medium can't be read"),
-        Failure::Stopped => String::from_str(
-            heap,
-            "stopped: a device failed in the middle of a change",
-        ),
     }
 }

@@ -9,7 +9,6 @@ use Rattle.forgetting.specs.Climb.{path_node, sibling_node, path_slot, sibling_s
 use Rattle.change.specs.Coded.{Cipher, node_number, coded, bytes_of}
 use Rattle.change.proofs.Bridge.{bytes_of-append, path_number, path_slot_lem, sibling_number, sibling_slot_lem}
 use Rattle.index.specs.declared.row.KeyRow.{KeyRow}
-use Rattle.index.specs.declared.row.KeyRow.TheVariants.{NoKey}
 use Rattle.index.specs.declared.row.ContentRow.{ContentRow}
 use Rattle.index.specs.Rows.{key_row}
 use Rattle.index.specs.Noted.{Rows, AllProper}
@@ -128,12 +127,12 @@ module _ (sealed : Cipher) (d p next : ℕ) (w : Option (List ℕ)) (K : ℕ →
   pub first_kept : (n : ℕ) → n ≢ N 0 → key_row (R 0).keys n ≡ key_row rows.keys n
   first_kept n ne = ap (λ (x : List (Record Numbered (List ℕ))). key_row (after sealed d bytes x rows).keys n) climbed_none ∙ first_key-other sealed d bytes p next K rows w n ne
 
-  pub first_none : path_key w K 0 ≡ None → N 0 < length rows.keys → key_row (R 0).keys (N 0) ≡ NoKey
+  pub first_none : path_key w K 0 ≡ None → N 0 < length rows.keys → key_row (R 0).keys (N 0) ≡ None
   first_none e l = ap (λ (x : List (Record Numbered (List ℕ))). key_row (after sealed d bytes x rows).keys (N 0)) climbed_none ∙ first_key_here sealed d bytes p next K rows w e l
 
   -- What is shown stays shown.
   module _ (marks : Marks16 sealed) (n bound bound' : ℕ) (above key : Option Numbered) (fine : Fine bound above) (fine' : Fine bound' key) where
-    abbrev Shown : (b : List ℕ) (row : KeyRow) → Type 0
+    abbrev Shown : (b : List ℕ) (row : Option KeyRow) → Type 0
     Shown b row = KeyShown sealed b n row above key
 
     pub shown_more : (h : ℕ) → n ≢ N h → n ≢ M h → Shown (B h) (key_row (R h).keys n) → Shown (B (suc h)) (key_row (R (suc h)).keys n)
@@ -141,7 +140,7 @@ module _ (sealed : Cipher) (d p next : ℕ) (w : Option (List ℕ)) (K : ℕ →
         let row = key_row (R h).keys n in
         let one = key_grows sealed marks (B h) (bytes_of sealed d (sealings (X h))) n bound bound' row above key fine fine' s in
         let two = key_grows sealed marks (B1 h) (bytes_of sealed d (sealings (Y h))) n bound bound' row above key fine fine' one in
-        subst (λ (x : KeyRow). Shown (B (suc h)) x) (sym (row_kept h n a c)) (subst (λ (x : List ℕ). Shown x row) (sym (bytes_more h)) two)
+        subst (λ (x : Option KeyRow). Shown (B (suc h)) x) (sym (row_kept h n a c)) (subst (λ (x : List ℕ). Shown x row) (sym (bytes_more h)) two)
 
     pub shown_kept : (from to : ℕ) → from ≤ to → Untouched from to n → Shown (B from) (key_row (R from).keys n) → Shown (B to) (key_row (R to).keys n)
     shown_kept from zero l u s = let z : from ≡ zero = omega arith in subst (λ (x : ℕ). Shown (B x) (key_row (R x).keys n)) z s
@@ -153,11 +152,11 @@ module _ (sealed : Cipher) (d p next : ℕ) (w : Option (List ℕ)) (K : ℕ →
 
     pub shown_first : n ≢ N 0 → Shown bytes (key_row rows.keys n) → Shown (B 0) (key_row (R 0).keys n)
     shown_first ne s =
-        subst (λ (x : KeyRow). Shown (B 0) x) (sym (first_kept n ne)) (key_grows sealed marks bytes (bytes_of sealed d (climbed next p w K siblings 0)) n bound bound' (key_row rows.keys n) above key fine fine' s)
+        subst (λ (x : Option KeyRow). Shown (B 0) x) (sym (first_kept n ne)) (key_grows sealed marks bytes (bytes_of sealed d (climbed next p w K siblings 0)) n bound bound' (key_row rows.keys n) above key fine fine' s)
 
   -- The two nodes of a turn, after it.
   module _ (marks : Marks16 sealed) (h : ℕ) (below : h < d) (apart : N h ≢ M h) (good : Fine (suc (K (suc h)).number) (Some (K (suc h)))) where
-    pub path_shown : (bound : ℕ) → Fine bound (path_key w K h) → N h < length rows.keys → (path_key w K h ≡ None → key_row (R h).keys (N h) ≡ NoKey)
+    pub path_shown : (bound : ℕ) → Fine bound (path_key w K h) → N h < length rows.keys → (path_key w K h ≡ None → key_row (R h).keys (N h) ≡ None)
         → KeyShown sealed (B (suc h)) (N h) (key_row (R (suc h)).keys (N h)) (Some (K (suc h))) (path_key w K h)
     path_shown bound fine l none =
         let slot : path_slot p h ≡ N h % 2 = path_slot_lem d p h below ∙ ap (λ n. n % 2) (sym (path_number d p h below)) in
@@ -168,10 +167,10 @@ module _ (sealed : Cipher) (d p next : ℕ) (w : Option (List ℕ)) (K : ℕ →
         let up = key_grows sealed marks (B1 h) (bytes_of sealed d (sealings (Y h))) (N h) (suc (K (suc h)).number) bound row (Some (K (suc h))) (path_key w K h) good fine here in
         let same : key_row (R (suc h)).keys (N h) ≡ row =
         ap (λ (x : Rows). key_row x.keys (N h)) (rows_more h) ∙ key-other sealed d (B1 h) (sibling_node p h) (sibling_slot p h) (K (suc h)) (R1 h) (siblings h) (N h) apart in
-        subst (λ (x : KeyRow). KeyShown sealed (B (suc h)) (N h) x (Some (K (suc h))) (path_key w K h)) (sym same)
+        subst (λ (x : Option KeyRow). KeyShown sealed (B (suc h)) (N h) x (Some (K (suc h))) (path_key w K h)) (sym same)
         (subst (λ (x : List ℕ). KeyShown sealed x (N h) row (Some (K (suc h))) (path_key w K h)) (sym (bytes_more h)) up)
 
-    pub sibling_shown : (bound : ℕ) → Fine bound (siblings h) → M h < length rows.keys → (siblings h ≡ None → key_row (R h).keys (M h) ≡ NoKey)
+    pub sibling_shown : (bound : ℕ) → Fine bound (siblings h) → M h < length rows.keys → (siblings h ≡ None → key_row (R h).keys (M h) ≡ None)
         → KeyShown sealed (B (suc h)) (M h) (key_row (R (suc h)).keys (M h)) (Some (K (suc h))) (siblings h)
     sibling_shown bound fine l none =
         let slot : sibling_slot p h ≡ M h % 2 = sibling_slot_lem d p h below ∙ ap (λ n. n % 2) (sym (sibling_number d p h below)) in
@@ -184,7 +183,7 @@ module _ (sealed : Cipher) (d p next : ℕ) (w : Option (List ℕ)) (K : ℕ →
         (subst (λ (x : List ℕ). KeyShown sealed x (M h) (key_row (after sealed d (B1 h) (sealings (Y h)) (R1 h)).keys (M h)) (Some (K (suc h))) (siblings h)) (sym (bytes_more h)) here)
 
   -- A content that is shown stays shown.
-  pub content-kept : Marks16 sealed → (bound n : ℕ) (row : ContentRow) (x : Tree Numbered (List ℕ)) → Fine bound (key_of x) → (h : ℕ) → ContentShown sealed (B 0) n row x → ContentShown sealed (B h) n row x
+  pub content-kept : Marks16 sealed → (bound n : ℕ) (row : Option ContentRow) (x : Tree Numbered (List ℕ)) → Fine bound (key_of x) → (h : ℕ) → ContentShown sealed (B 0) n row x → ContentShown sealed (B h) n row x
   content-kept marks bound n row x fine zero s = s
   content-kept marks bound n row x fine (suc h) s =
       let one = content_grows sealed marks (B h) (bytes_of sealed d (sealings (X h))) n bound row x fine (content-kept marks bound n row x fine h s) in

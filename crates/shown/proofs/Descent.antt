@@ -64,8 +64,8 @@ module _ {K C : Type 0} where
   -- A node that has no key is bare.
   pub no_key : (t : Tree K C) → key_of t ≡ None → t ≡ bare
   no_key bare e = refl
-  no_key (leaf k c) e = absurd (let z : ◌≡◌ {A = ℕ} 0 1 = cc in omega arith)
-  no_key (node k l r) e = absurd (let z : ◌≡◌ {A = ℕ} 0 1 = cc in omega arith)
+  no_key (leaf k c) e = cc
+  no_key (node k l r) e = cc
 
 pub steps_down : (K C : Type 0) → StepsDown K C
 steps_down K C g i t = down g i t

@@ -52,7 +52,7 @@ module _ {K C : Type 0} where
 
   -- The key of a node is one of the tree's.
   top_key : (t : Tree K C) (k : K) → key_of t ≡ Some k → Memᴰ k (node_keys t)
-  top_key bare k e = absurd (let z : ◌≡◌ {A = ℕ} 0 1 = cc in omega arith)
+  top_key bare k e = cc
   top_key (leaf j c) k e = Memᴰ.head (cc)
   top_key (node j l r) k e = Memᴰ.head (cc)
 

@@ -6,7 +6,6 @@ use Rattle.forgetting.specs.Change.{Numbered, edited, placed}
 use Rattle.forgetting.specs.Climb.{path_node, path_key, first_record}
 use Rattle.change.specs.Coded.{Cipher, node_number, coded, bytes_of}
 use Rattle.change.specs.Outcome.{is_content}
-use Rattle.index.specs.declared.row.KeyRow.TheVariants as KeyRows
 use Rattle.index.specs.declared.row.ContentRow.{ContentRow}
 use Rattle.index.specs.Rows.{key_row, content_row}
 use Rattle.index.specs.Noted.{Rows, AllProper}
@@ -32,9 +31,9 @@ module _ (sealed : Cipher) (d : ℕ) (b : List ℕ) (p next : ℕ) (K : ℕ → 
   first_key-other None n ne = out-key-other sealed d b (path_node p 0) next rows n ne
   first_key-other (Some c) n ne = ap (λ x. key_row x n) (put_keys sealed d b (path_node p 0) (K 0) c rows)
 
-  pub first_key_here : (w : Option (List ℕ)) → path_key w K 0 ≡ None → at < length rows.keys → key_row (after sealed d b (first_record next p w K ∷ []) rows).keys at ≡ KeyRows.NoKey
+  pub first_key_here : (w : Option (List ℕ)) → path_key w K 0 ≡ None → at < length rows.keys → key_row (after sealed d b (first_record next p w K ∷ []) rows).keys at ≡ None
   first_key_here None e l = out-key_here sealed d b (path_node p 0) next rows l
-  first_key_here (Some c) e l = absurd (let z : ◌≡◌ {A = ℕ} 0 1 = cc in omega arith)
+  first_key_here (Some c) e l = cc
 
   pub first_other : (w : Option (List ℕ)) (q : ℕ) → q ≢ at - 2 ^ d → content_row (after sealed d b (first_record next p w K ∷ []) rows).contents q ≡ content_row rows.contents q
   first_other None q ne = out-other sealed d b (path_node p 0) next rows q ne
@@ -43,7 +42,7 @@ module _ (sealed : Cipher) (d : ℕ) (b : List ℕ) (p next : ℕ) (K : ℕ → 
   pub first_here : Marks16 sealed → (w : Option (List ℕ)) (x : Tree Numbered (List ℕ)) → ((c : List ℕ) → w ≡ Some c → length (K 0).bytes ≡ 32) → at - 2 ^ d < length rows.contents
       → ContentShown sealed (b ++ bytes_of sealed d (first_record next p w K ∷ [])) at (content_row (after sealed d b (first_record next p w K ∷ []) rows).contents (at - 2 ^ d)) (edited (placed w (K 0)) x)
   first_here marks None x long l =
-      subst (λ (r : ContentRow). ContentShown sealed (b ++ bytes_of sealed d (first_record {C = List ℕ} next p None K ∷ [])) at r (edited {C = List ℕ} (placed None (K 0)) x))
+      subst (λ (r : Option ContentRow). ContentShown sealed (b ++ bytes_of sealed d (first_record {C = List ℕ} next p None K ∷ [])) at r (edited {C = List ℕ} (placed None (K 0)) x))
       (sym (out_here sealed d b (path_node p 0) next rows l)) tt
   first_here marks (Some c) x long l = put_here sealed d b (path_node p 0) (K 0) c rows marks (long c refl) l
 

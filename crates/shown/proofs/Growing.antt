@@ -5,9 +5,7 @@ use Rattle.forgetting.specs.Tree.{Tree, bare, leaf, node, key_of}
 use Rattle.forgetting.specs.Change.{Numbered}
 use Rattle.change.specs.Coded.{Cipher}
 use Rattle.index.specs.declared.row.KeyRow.{KeyRow}
-use Rattle.index.specs.declared.row.KeyRow.TheVariants as KeyRows
 use Rattle.index.specs.declared.row.ContentRow.{ContentRow}
-use Rattle.index.specs.declared.row.ContentRow.TheVariants as ContentRows
 use Rattle.shown.specs.Shown.{KeyShown, ContentShown, Marks16}
 
 -- A key, where there is one, has 32 bytes and a number from 1 on, below a bound.
@@ -32,45 +30,43 @@ part_grows n o bs more s e l g =
     ap (take n) (drop-append-le o bs more y) ∙ take-append-le n (drop o bs) more z ∙ e
 
 module _ (sealed : Cipher) (marks : Marks16 sealed) (bytes more : List ℕ) (at : ℕ) where
-  pub key_grows : (bound bound' : ℕ) (row : KeyRow) (above key : Option Numbered) → Fine bound above → Fine bound' key → KeyShown sealed bytes at row above key → KeyShown sealed (bytes ++ more) at row above key
-  key_grows b b' KeyRows.NoKey above None f g s = tt
-  key_grows b b' KeyRows.NoKey above (Some k) f g s = absurd s
-  key_grows b b' (KeyRows.Sealed number under offset) above None f g s = absurd s
-  key_grows b b' (KeyRows.Sealed number under offset) None (Some k) f g s = absurd s
-  key_grows b b' (KeyRows.Sealed number under offset) (Some u) (Some k) f g s =
+  pub key_grows : (bound bound' : ℕ) (row : Option KeyRow) (above key : Option Numbered) → Fine bound above → Fine bound' key → KeyShown sealed bytes at row above key → KeyShown sealed (bytes ++ more) at row above key
+  key_grows b b' None above None f g s = tt
+  key_grows b b' None above (Some k) f g s = absurd s
+  key_grows b b' (Some row) above None f g s = absurd s
+  key_grows b b' (Some row) None (Some k) f g s = absurd s
+  key_grows b b' (Some row) (Some u) (Some k) f g s =
       record {
         number_is = s.number_is;
         under-is = s.under-is;
-        text = part_grows 48 offset bytes more _ s.text (marks u.bytes _ _ k.bytes f.0 ∙ ap (λ n. n + 16) g.0) (omega arith);
+        text = part_grows 48 row.offset bytes more _ s.text (marks u.bytes _ _ k.bytes f.0 ∙ ap (λ n. n + 16) g.0) (omega arith);
       }
 
-  pub content_grows : (bound : ℕ) (row : ContentRow) (t : Tree Numbered (List ℕ)) → Fine bound (key_of t) → ContentShown sealed bytes at row t → ContentShown sealed (bytes ++ more) at row t
-  content_grows b ContentRows.NoContent bare f s = tt
-  content_grows b ContentRows.NoContent (leaf k c) f s = absurd s
-  content_grows b ContentRows.NoContent (node k l r) f s = absurd s
-  content_grows b (ContentRows.Sealed number long offset) bare f s = absurd s
-  content_grows b (ContentRows.Sealed number long offset) (leaf k c) f s =
+  pub content_grows : (bound : ℕ) (row : Option ContentRow) (t : Tree Numbered (List ℕ)) → Fine bound (key_of t) → ContentShown sealed bytes at row t → ContentShown sealed (bytes ++ more) at row t
+  content_grows b None bare f s = tt
+  content_grows b None (leaf k c) f s = absurd s
+  content_grows b None (node k l r) f s = absurd s
+  content_grows b (Some row) bare f s = absurd s
+  content_grows b (Some row) (leaf k c) f s =
       record {
         number_is = s.number_is;
         length-is = s.length-is;
-        text = part_grows (length c + 16) offset bytes more _ s.text (marks k.bytes _ _ c f.0) (omega arith);
+        text = part_grows (length c + 16) row.offset bytes more _ s.text (marks k.bytes _ _ c f.0) (omega arith);
       }
-  content_grows b (ContentRows.Sealed number long offset) (node k l r) f s = absurd s
+  content_grows b (Some row) (node k l r) f s = absurd s
 
 -- What a row shows lies within the bytes.
 module _ (sealed : Cipher) (marks : Marks16 sealed) (bytes : List ℕ) (at : ℕ) where
-  pub key_within : (number under offset bound bound' : ℕ) (above key : Option Numbered) → Fine bound above → Fine bound' key → KeyShown sealed bytes at (KeyRows.Sealed number under offset) above key
-      → offset + 48 ≤ length bytes
-  key_within number under offset b b' above None f g s = absurd s
-  key_within number under offset b b' None (Some k) f g s = absurd s
-  key_within number under offset b b' (Some u) (Some k) f g s =
-      part-ends 48 offset bytes _ s.text (marks u.bytes _ _ k.bytes f.0 ∙ ap (λ n. n + 16) g.0) (omega arith)
+  pub key_within : (row : KeyRow) (bound bound' : ℕ) (above key : Option Numbered) → Fine bound above → Fine bound' key → KeyShown sealed bytes at (Some row) above key → row.offset + 48 ≤ length bytes
+  key_within row b b' above None f g s = absurd s
+  key_within row b b' None (Some k) f g s = absurd s
+  key_within row b b' (Some u) (Some k) f g s =
+      part-ends 48 row.offset bytes _ s.text (marks u.bytes _ _ k.bytes f.0 ∙ ap (λ n. n + 16) g.0) (omega arith)
 
-  pub content_within : (number long offset bound : ℕ) (t : Tree Numbered (List ℕ)) → Fine bound (key_of t) → ContentShown sealed bytes at (ContentRows.Sealed number long offset) t
-      → offset + (long + 16) ≤ length bytes
-  content_within number long offset b bare f s = absurd s
-  content_within number long offset b (leaf k c) f s =
+  pub content_within : (row : ContentRow) (bound : ℕ) (t : Tree Numbered (List ℕ)) → Fine bound (key_of t) → ContentShown sealed bytes at (Some row) t → row.offset + (row.length + 16) ≤ length bytes
+  content_within row b bare f s = absurd s
+  content_within row b (leaf k c) f s =
       let l = s.length-is in
-      let e = part-ends (length c + 16) offset bytes _ s.text (marks k.bytes _ _ c f.0) (omega arith) in
+      let e = part-ends (length c + 16) row.offset bytes _ s.text (marks k.bytes _ _ c f.0) (omega arith) in
       omega arith
-  content_within number long offset b (node k l r) f s = absurd s
+  content_within row b (node k l r) f s = absurd s

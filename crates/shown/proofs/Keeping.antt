@@ -13,7 +13,6 @@ use Rattle.forgetting.proofs.Places.{single-draws}
 use Rattle.forgetting.proofs.Climbing.{climbs, single-key}
 use Rattle.change.specs.Coded.{Cipher, coded, bytes_of}
 use Rattle.change.specs.Outcome.{is_content}
-use Rattle.index.specs.declared.row.KeyRow.TheVariants.{NoKey}
 use Rattle.index.specs.declared.row.ContentRow.{ContentRow}
 use Rattle.index.specs.Rows.{key_row, content_row}
 use Rattle.index.specs.Noted.{Rows, AllProper}
@@ -152,11 +151,11 @@ module _ (sealed : Cipher) (marks : Marks16 sealed) (d p last : ℕ) (w : Option
         subst (λ (x : Option Numbered). KeyShown sealed (B d) n (key_row (R d).keys n) x (key_of (place_in (suc g) i t'))) (sym above)
         (subst (λ (x : Option Numbered). KeyShown sealed (B d) n (key_row (R d).keys n) u x) (sym is) all)
 
-    path_none_row : path_key w K m ≡ None → key_row (R m).keys (N m) ≡ NoKey
+    path_none_row : path_key w K m ≡ None → key_row (R m).keys (N m) ≡ None
     path_none_row f =
         let z = path_none w K m f in
         let l : N m < length rows.keys = subst (λ n. n < length rows.keys) (sym N-is) (node_inside q q_below) in
-        subst (λ x. key_row (R x).keys (N x) ≡ NoKey) (sym z)
+        subst (λ x. key_row (R x).keys (N x) ≡ None) (sym z)
         (Turns.first_none sealed d p (last + 1) w K S bytes rows (subst (λ x. path_key w K x ≡ None) z f) (subst (λ x. N x < length rows.keys) z l))
 
     on_the_path : KeyShown sealed (B d) (2 ^ suc g + q) (key_row (R d).keys (2 ^ suc g + q)) (key_of (place_in g (q / 2) t')) (key_of (place_in (suc g) q t'))
@@ -167,11 +166,11 @@ module _ (sealed : Cipher) (marks : Marks16 sealed) (d p last : ℕ) (w : Option
         on q (path_key w K m) (K (suc m)).number q_below q_half fine path_new
         (subst (λ n. KeyShown sealed (B (suc m)) n (key_row (R (suc m)).keys n) (Some (K (suc m))) (path_key w K m)) N-is s)
 
-    sibling_none_row : S m ≡ None → key_row (R m).keys (M m) ≡ NoKey
+    sibling_none_row : S m ≡ None → key_row (R m).keys (M m) ≡ None
     sibling_none_row f =
         let n = 2 ^ suc g + beside q in
         let o = shows.keys g (beside q) (omega arith) b_below in
-        let old : key_row rows.keys n ≡ NoKey =
+        let old : key_row rows.keys n ≡ None =
         no_key_row sealed bytes n (key_row rows.keys n) (key_of (place_in g (beside q / 2) t)) (key_of (place_in (suc g) (beside q) t)) o (sym (sibling_beside d g m p t e) ∙ f) in
         let free : (h : ℕ) → 0 ≤ h → h < m → (M m ≢ N h) × (M m ≢ M h) =
         λ h z l. subst (λ x. (x ≢ N h) × (x ≢ M h)) (sym M-is) (touch (beside q) h b_below (omega arith) (λ v. omega arith)) in
@@ -225,10 +224,10 @@ module _ (sealed : Cipher) (marks : Marks16 sealed) (d p last : ℕ) (w : Option
       let zero-turns : ContentShown sealed (B 0) (N 0) row (edited (single w K 0 p) x) =
       subst (λ (b : List ℕ). ContentShown sealed b (N 0) row (edited (single w K 0 p) x)) (sym (Turns.first_bytes sealed d p (last + 1) w K S bytes rows)) first in
       let all = Turns.content-kept sealed d p (last + 1) w K S bytes rows marks (K 1).number (N 0) row (edited (single w K 0 p) x) fine d zero-turns in
-      let same : content_row (R d).contents p ≡ row = ap (λ (y : List ContentRow). content_row y p) (Turns.all-contents sealed d p (last + 1) w K S bytes rows d)
+      let same : content_row (R d).contents p ≡ row = ap (λ (y : List (Option ContentRow)). content_row y p) (Turns.all-contents sealed d p (last + 1) w K S bytes rows d)
       ∙ ap (content_row (after sealed d bytes (first_record (last + 1) p w K ∷ []) rows).contents) (sym place-index) in
       subst (λ (y : Tree Numbered (List ℕ)). ContentShown sealed (B d) (2 ^ d + p) (content_row (R d).contents p) y) (sym is)
-      (subst (λ (y : ContentRow). ContentShown sealed (B d) (2 ^ d + p) y (edited (single w K 0 p) x)) (sym same)
+      (subst (λ (y : Option ContentRow). ContentShown sealed (B d) (2 ^ d + p) y (edited (single w K 0 p) x)) (sym same)
       (subst (λ n. ContentShown sealed (B d) n row (edited (single w K 0 p) x)) place-number all))
 
   content_elsewhere : (q : ℕ) → q < 2 ^ d → (q ≡ p → ⊥) → ContentShown sealed (B d) (2 ^ d + q) (content_row (R d).contents q) (place_in d q t')
@@ -236,10 +235,10 @@ module _ (sealed : Cipher) (marks : Marks16 sealed) (d p last : ℕ) (w : Option
       let one : p / 1 ≡ p = omega arith in
       let is : place_in d q t' ≡ place_in d q t = off_path w K d d 0 p q t (omega arith) inside l (λ f. ne (f ∙ one)) in
       let old = content_grows sealed marks bytes (bytes_of sealed d (climbed (last + 1) p w K S d)) (2 ^ d + q) (suc last) (content_row rows.contents q) (place_in d q t) (tree_fine last d q t counts) (shows.contents q l) in
-      let same : content_row (R d).contents q ≡ content_row rows.contents q = ap (λ (y : List ContentRow). content_row y q) (Turns.all-contents sealed d p (last + 1) w K S bytes rows d)
+      let same : content_row (R d).contents q ≡ content_row rows.contents q = ap (λ (y : List (Option ContentRow)). content_row y q) (Turns.all-contents sealed d p (last + 1) w K S bytes rows d)
       ∙ first_other sealed d bytes p (last + 1) K rows w q (λ f. ne (f ∙ place-index)) in
       subst (λ (y : Tree Numbered (List ℕ)). ContentShown sealed (B d) (2 ^ d + q) (content_row (R d).contents q) y) (sym is)
-      (subst (λ (y : ContentRow). ContentShown sealed (B d) (2 ^ d + q) y (place_in d q t)) (sym same) old)
+      (subst (λ (y : Option ContentRow). ContentShown sealed (B d) (2 ^ d + q) y (place_in d q t)) (sym same) old)
 
   content-after : (q : ℕ) → q < 2 ^ d → ContentShown sealed (B d) (2 ^ d + q) (content_row (R d).contents q) (place_in d q t')
   content-after q l =

@@ -9,9 +9,7 @@ use Rattle.forgetting.specs.Tree.{leaf, sealed_key}
 use Rattle.forgetting.specs.Change.{Record, sealing, taking, sealings, Numbered}
 use Rattle.change.specs.Coded.{Cipher, node_number, coded, bytes_of}
 use Rattle.index.specs.declared.row.KeyRow.{KeyRow}
-use Rattle.index.specs.declared.row.KeyRow.TheVariants as KeyRows
 use Rattle.index.specs.declared.row.ContentRow.{ContentRow}
-use Rattle.index.specs.declared.row.ContentRow.TheVariants as ContentRows
 use Rattle.index.specs.Rows.{key_row, content_row}
 use Rattle.index.specs.Noted.{Rows, noted, note_all, encode_all, AllProper}
 use Rattle.shown.specs.Shown.{KeyShown, ContentShown, Marks16}
@@ -87,19 +85,19 @@ module _ (sealed : Cipher) (levels : ℕ) where
     pub key-other : (k : Option Numbered) (n : ℕ) → n ≢ node_number levels at → key_row (after b (sealings (sealed_key at slot u k)) rows).keys n ≡ key_row rows.keys n
     unfolding note_all
     key-other None n ne = refl
-    key-other (Some k) n ne = get_or-set_other rows.keys (node_number levels at) n _ KeyRows.NoKey ne
+    key-other (Some k) n ne = get_or-set_other rows.keys (node_number levels at) n _ None ne
 
     pub key_here : Marks16 sealed → (k : Option Numbered) (bound : ℕ) → length u.bytes ≡ 32 → Fine bound k → slot ≡ node_number levels at % 2 → node_number levels at < length rows.keys
-        → (k ≡ None → key_row rows.keys (node_number levels at) ≡ KeyRows.NoKey)
+        → (k ≡ None → key_row rows.keys (node_number levels at) ≡ None)
         → KeyShown sealed (b ++ bytes_of sealed levels (sealings (sealed_key at slot u k))) (node_number levels at) (key_row (after b (sealings (sealed_key at slot u k)) rows).keys (node_number levels at)) (Some u) k
     unfolding note_all bytes_of
-    key_here marks None bound ul f s l none = subst (λ (x : KeyRow). KeyShown sealed (b ++ []) (node_number levels at) x (Some u) None) (sym (none refl)) tt
+    key_here marks None bound ul f s l none = subst (λ (x : Option KeyRow). KeyShown sealed (b ++ []) (node_number levels at) x (Some u) None) (sym (none refl)) tt
     key_here marks (Some k) bound ul f s l none =
         let n = node_number levels at in
         let t : List ℕ = sealed u.bytes (slot_nonce slot) (head key_tag n k.number) k.bytes in
         let long : length t ≡ 48 = marks u.bytes (slot_nonce slot) (head key_tag n k.number) k.bytes ul ∙ ap (λ x. x + 16) f.0 in
-        let row : KeyRow = KeyRows.Sealed k.number u.number (length b + 13) in
-        subst (λ (x : KeyRow). KeyShown sealed (b ++ (encode (Format.key n k.number u.number t) ++ [])) n x (Some u) (Some k)) (sym (get_or-set_same rows.keys n row KeyRows.NoKey l))
+        let row : Option KeyRow = Some (record { number = k.number; under = u.number; offset = length b + 13 }) in
+        subst (λ (x : Option KeyRow). KeyShown sealed (b ++ (encode (Format.key n k.number u.number t) ++ [])) n x (Some u) (Some k)) (sym (get_or-set_same rows.keys n row None l))
         (record {
           number_is = refl;
           under-is = refl;
@@ -126,7 +124,7 @@ module _ (sealed : Cipher) (levels : ℕ) where
 
     pub put_other : (q : ℕ) → q ≢ node_number levels at - 2 ^ levels → content_row (after b (sealing (Sealed.Content at 0 k c) ∷ []) rows).contents q ≡ content_row rows.contents q
     unfolding note_all
-    put_other q ne = get_or-set_other rows.contents (node_number levels at - 2 ^ levels) q _ ContentRows.NoContent ne
+    put_other q ne = get_or-set_other rows.contents (node_number levels at - 2 ^ levels) q _ None ne
 
     pub put_here : Marks16 sealed → length k.bytes ≡ 32 → node_number levels at - 2 ^ levels < length rows.contents
         → ContentShown sealed (b ++ bytes_of sealed levels (sealing (Sealed.Content at 0 k c) ∷ [])) (node_number levels at)
@@ -136,8 +134,8 @@ module _ (sealed : Cipher) (levels : ℕ) where
         let n = node_number levels at in
         let t : List ℕ = sealed k.bytes (slot_nonce 0) (head content_tag n k.number) c in
         let long : length t ≡ length c + 16 = marks k.bytes (slot_nonce 0) (head content_tag n k.number) c kl in
-        let row : ContentRow = ContentRows.Sealed k.number (length t - 16) (length b + 11) in
-        subst (λ (x : ContentRow). ContentShown sealed (b ++ (encode (Format.content n k.number t) ++ [])) n x (leaf k c)) (sym (get_or-set_same rows.contents (n - 2 ^ levels) row ContentRows.NoContent l))
+        let row : Option ContentRow = Some (record { number = k.number; length = length t - 16; offset = length b + 11 }) in
+        subst (λ (x : Option ContentRow). ContentShown sealed (b ++ (encode (Format.content n k.number t) ++ [])) n x (leaf k c)) (sym (get_or-set_same rows.contents (n - 2 ^ levels) row None l))
         (record { number_is = refl; length-is = omega arith; text = content-text b [] t n k.number (length c + 16) long })
 
     pub put_proper : Marks16 sealed → length k.bytes ≡ 32 → 1 ≤ k.number → k.number ≤ 4294967294 → 2 ^ levels ≤ node_number levels at → node_number levels at < 2 ^ (levels + 1) → 1 ≤ length c → length c ≤ 4096
@@ -150,24 +148,24 @@ module _ (sealed : Cipher) (levels : ℕ) where
   module _ (b : List ℕ) (at : Node) (next : ℕ) (rows : Rows) where
     pub out-nodes : length (after b (taking at next ∷ []) rows).keys ≡ length rows.keys
     unfolding note_all
-    out-nodes = length-set rows.keys (node_number levels at) KeyRows.NoKey
+    out-nodes = length-set rows.keys (node_number levels at) None
 
     pub out-key-other : (n : ℕ) → n ≢ node_number levels at → key_row (after b (taking at next ∷ []) rows).keys n ≡ key_row rows.keys n
     unfolding note_all
-    out-key-other n ne = get_or-set_other rows.keys (node_number levels at) n KeyRows.NoKey KeyRows.NoKey ne
+    out-key-other n ne = get_or-set_other rows.keys (node_number levels at) n None None ne
 
-    pub out-key_here : node_number levels at < length rows.keys → key_row (after b (taking at next ∷ []) rows).keys (node_number levels at) ≡ KeyRows.NoKey
+    pub out-key_here : node_number levels at < length rows.keys → key_row (after b (taking at next ∷ []) rows).keys (node_number levels at) ≡ None
     unfolding note_all
-    out-key_here l = get_or-set_same rows.keys (node_number levels at) KeyRows.NoKey KeyRows.NoKey l
+    out-key_here l = get_or-set_same rows.keys (node_number levels at) None None l
 
     pub out-places : length (after b (taking at next ∷ []) rows).contents ≡ length rows.contents
     unfolding note_all
-    out-places = length-set rows.contents (node_number levels at - 2 ^ levels) ContentRows.NoContent
+    out-places = length-set rows.contents (node_number levels at - 2 ^ levels) None
 
     pub out-other : (q : ℕ) → q ≢ node_number levels at - 2 ^ levels → content_row (after b (taking at next ∷ []) rows).contents q ≡ content_row rows.contents q
     unfolding note_all
-    out-other q ne = get_or-set_other rows.contents (node_number levels at - 2 ^ levels) q ContentRows.NoContent ContentRows.NoContent ne
+    out-other q ne = get_or-set_other rows.contents (node_number levels at - 2 ^ levels) q None None ne
 
-    pub out_here : node_number levels at - 2 ^ levels < length rows.contents → content_row (after b (taking at next ∷ []) rows).contents (node_number levels at - 2 ^ levels) ≡ ContentRows.NoContent
+    pub out_here : node_number levels at - 2 ^ levels < length rows.contents → content_row (after b (taking at next ∷ []) rows).contents (node_number levels at - 2 ^ levels) ≡ None
     unfolding note_all
-    out_here l = get_or-set_same rows.contents (node_number levels at - 2 ^ levels) ContentRows.NoContent ContentRows.NoContent l
+    out_here l = get_or-set_same rows.contents (node_number levels at - 2 ^ levels) None None l

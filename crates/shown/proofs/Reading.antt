@@ -9,9 +9,7 @@ use Rattle.forgetting.proofs.Members.{in_none}
 use Rattle.change.specs.Coded.{Cipher}
 use Rattle.change.proofs.Bridge.{path_number, sibling_number}
 use Rattle.index.specs.declared.row.KeyRow.{KeyRow}
-use Rattle.index.specs.declared.row.KeyRow.TheVariants as KeyRows
 use Rattle.index.specs.declared.row.ContentRow.{ContentRow}
-use Rattle.index.specs.declared.row.ContentRow.TheVariants as ContentRows
 use Rattle.index.specs.Rows.{key_row, content_row}
 use Rattle.shown.specs.Shown.{KeyShown, ContentShown}
 use Rattle.shown.specs.Theorems.{ReadsShown, key_above, PathShown, EmptyShows}
@@ -19,28 +17,28 @@ use Rattle.shown.proofs.NodeNumbers.{shifted, beside, beside_half, beside_below,
 use Rattle.shown.proofs.Descent.{through, sibling_beside, in_bare, no_key}
 
 -- A row that says that there is no key, and what a node without a key has for a row.
-pub row_no_key : (sealed : Cipher) (bytes : List ℕ) (at : ℕ) (row : KeyRow) (above key : Option Numbered) → KeyShown sealed bytes at row above key → row ≡ KeyRows.NoKey → key ≡ None
-row_no_key sealed bytes at KeyRows.NoKey above None s e = refl
-row_no_key sealed bytes at KeyRows.NoKey above (Some k) s e = absurd s
-row_no_key sealed bytes at (KeyRows.Sealed number under offset) above None s e = refl
-row_no_key sealed bytes at (KeyRows.Sealed number under offset) above (Some k) s e = absurd (let z : ◌≡◌ {A = ℕ} 0 1 = cc in omega arith)
+pub row_no_key : (sealed : Cipher) (bytes : List ℕ) (at : ℕ) (row : Option KeyRow) (above key : Option Numbered) → KeyShown sealed bytes at row above key → row ≡ None → key ≡ None
+row_no_key sealed bytes at None above None s e = refl
+row_no_key sealed bytes at None above (Some k) s e = absurd s
+row_no_key sealed bytes at (Some row) above None s e = refl
+row_no_key sealed bytes at (Some row) above (Some k) s e = cc
 
-pub no_key_row : (sealed : Cipher) (bytes : List ℕ) (at : ℕ) (row : KeyRow) (above key : Option Numbered) → KeyShown sealed bytes at row above key → key ≡ None → row ≡ KeyRows.NoKey
-no_key_row sealed bytes at KeyRows.NoKey above key s e = refl
-no_key_row sealed bytes at (KeyRows.Sealed number under offset) above None s e = absurd s
-no_key_row sealed bytes at (KeyRows.Sealed number under offset) above (Some k) s e = absurd (let z : ◌≡◌ {A = ℕ} 0 1 = cc in omega arith)
+pub no_key_row : (sealed : Cipher) (bytes : List ℕ) (at : ℕ) (row : Option KeyRow) (above key : Option Numbered) → KeyShown sealed bytes at row above key → key ≡ None → row ≡ None
+no_key_row sealed bytes at None above key s e = refl
+no_key_row sealed bytes at (Some row) above None s e = absurd s
+no_key_row sealed bytes at (Some row) above (Some k) s e = cc
 
-pub row_no_content : (sealed : Cipher) (bytes : List ℕ) (at : ℕ) (row : ContentRow) (t : Tree Numbered (List ℕ)) → ContentShown sealed bytes at row t → row ≡ ContentRows.NoContent → content_of t ≡ None
+pub row_no_content : (sealed : Cipher) (bytes : List ℕ) (at : ℕ) (row : Option ContentRow) (t : Tree Numbered (List ℕ)) → ContentShown sealed bytes at row t → row ≡ None → content_of t ≡ None
 row_no_content sealed bytes at row bare s e = refl
-row_no_content sealed bytes at ContentRows.NoContent (leaf k c) s e = absurd s
-row_no_content sealed bytes at (ContentRows.Sealed number long offset) (leaf k c) s e = absurd (let z : ◌≡◌ {A = ℕ} 0 1 = cc in omega arith)
+row_no_content sealed bytes at None (leaf k c) s e = absurd s
+row_no_content sealed bytes at (Some row) (leaf k c) s e = cc
 row_no_content sealed bytes at row (node k l r) s e = refl
 
-pub no_content_row : (sealed : Cipher) (bytes : List ℕ) (at : ℕ) (row : ContentRow) (t : Tree Numbered (List ℕ)) → ContentShown sealed bytes at row t → content_of t ≡ None → row ≡ ContentRows.NoContent
-no_content_row sealed bytes at ContentRows.NoContent t s e = refl
-no_content_row sealed bytes at (ContentRows.Sealed number long offset) bare s e = absurd s
-no_content_row sealed bytes at (ContentRows.Sealed number long offset) (leaf k c) s e = absurd (let z : ◌≡◌ {A = ℕ} 0 1 = cc in omega arith)
-no_content_row sealed bytes at (ContentRows.Sealed number long offset) (node k l r) s e = absurd s
+pub no_content_row : (sealed : Cipher) (bytes : List ℕ) (at : ℕ) (row : Option ContentRow) (t : Tree Numbered (List ℕ)) → ContentShown sealed bytes at row t → content_of t ≡ None → row ≡ None
+no_content_row sealed bytes at None t s e = refl
+no_content_row sealed bytes at (Some row) bare s e = absurd s
+no_content_row sealed bytes at (Some row) (leaf k c) s e = cc
+no_content_row sealed bytes at (Some row) (node k l r) s e = absurd s
 
 pub reads_shown : ReadsShown
 reads_shown sealed levels bytes rows t s p l = (
@@ -90,20 +88,20 @@ pub empty_shows : EmptyShows
 empty_shows sealed levels rows e = (
   record {
     deep = tt;
-    nodes = ap length e.0 ∙ length-replicate (2 ^ (levels + 1)) KeyRows.NoKey;
-    places = ap length e.1 ∙ length-replicate (2 ^ levels) ContentRows.NoContent;
+    nodes = ap length e.0 ∙ length-replicate (2 ^ (levels + 1)) None;
+    places = ap length e.1 ∙ length-replicate (2 ^ levels) None;
     keys = λ g i l b.
         let n = 2 ^ suc g + i in
-        let row : key_row rows.keys n ≡ KeyRows.NoKey =
-        ap (λ (x : List KeyRow). key_row x n) e.0 ∙ get_or-replicate (2 ^ (levels + 1)) n KeyRows.NoKey KeyRows.NoKey (level_below (suc g) (levels + 1) i (omega arith) b) in
+        let row : key_row rows.keys n ≡ None =
+        ap (λ (x : List (Option KeyRow)). key_row x n) e.0 ∙ get_or-replicate (2 ^ (levels + 1)) n None None (level_below (suc g) (levels + 1) i (omega arith) b) in
         let none : Tree Numbered (List ℕ) = bare in
         let key : key_of (place_in (suc g) i none) ≡ None = ap key_of (in_bare (suc g) i) in
-        subst (λ (x : KeyRow). KeyShown sealed [] n x (key_of (place_in g (i / 2) none)) (key_of (place_in (suc g) i none))) (sym row)
-        (subst (λ (x : Option Numbered). KeyShown sealed [] n KeyRows.NoKey (key_of (place_in g (i / 2) none)) x) (sym key) tt);
+        subst (λ (x : Option KeyRow). KeyShown sealed [] n x (key_of (place_in g (i / 2) none)) (key_of (place_in (suc g) i none))) (sym row)
+        (subst (λ (x : Option Numbered). KeyShown sealed [] n None (key_of (place_in g (i / 2) none)) x) (sym key) tt);
     contents = λ p l.
-        let row : content_row rows.contents p ≡ ContentRows.NoContent = ap (λ (x : List ContentRow). content_row x p) e.1 ∙ get_or-replicate (2 ^ levels) p ContentRows.NoContent ContentRows.NoContent l in
-        subst (λ (x : ContentRow). ContentShown sealed [] (2 ^ levels + p) x (place_in levels p bare)) (sym row)
-        (subst (λ (x : Tree Numbered (List ℕ)). ContentShown sealed [] (2 ^ levels + p) ContentRows.NoContent x) (sym (in_bare levels p)) tt);
+        let row : content_row rows.contents p ≡ None = ap (λ (x : List (Option ContentRow)). content_row x p) e.1 ∙ get_or-replicate (2 ^ levels) p None None l in
+        subst (λ (x : Option ContentRow). ContentShown sealed [] (2 ^ levels + p) x (place_in levels p bare)) (sym row)
+        (subst (λ (x : Tree Numbered (List ℕ)). ContentShown sealed [] (2 ^ levels + p) None x) (sym (in_bare levels p)) tt);
   },
   record { keys = λ k m. in_none m; contents = λ c h. absurd h },
 )

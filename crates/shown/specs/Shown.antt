@@ -8,9 +8,7 @@ use Rattle.forgetting.specs.Tree.{Tree, bare, leaf, node, key_of, Holds, node_ke
 use Rattle.forgetting.specs.Change.{Record, Numbered}
 use Rattle.change.specs.Coded.{Cipher, coded, bytes_of}
 use Rattle.index.specs.declared.row.KeyRow.{KeyRow}
-use Rattle.index.specs.declared.row.KeyRow.TheVariants as KeyRows
 use Rattle.index.specs.declared.row.ContentRow.{ContentRow}
-use Rattle.index.specs.declared.row.ContentRow.TheVariants as ContentRows
 use Rattle.index.specs.Rows.{key_row, content_row}
 use Rattle.index.specs.Noted.{Rows, note_all, AllProper}
 
@@ -21,12 +19,12 @@ pub record KeySealed (sealed : Cipher) (bytes : List ℕ) (at number under offse
   pub text : take 48 (drop offset bytes) ≡ sealed u.bytes (slot_nonce (at % 2)) (head key_tag at number) k.bytes
 
 -- What the row of a node says of its key, and the key of the node above: there is none; or it is sealed under that one.
-abbrev pub KeyShown : Cipher → (bytes : List ℕ) (at : ℕ) → KeyRow → (above key : Option Numbered) → Type 0
-KeyShown sealed bytes at KeyRows.NoKey above None = Unit {0}
-KeyShown sealed bytes at KeyRows.NoKey above (Some k) = ⊥
-KeyShown sealed bytes at (KeyRows.Sealed number under offset) above None = ⊥
-KeyShown sealed bytes at (KeyRows.Sealed number under offset) None (Some k) = ⊥
-KeyShown sealed bytes at (KeyRows.Sealed number under offset) (Some u) (Some k) = KeySealed sealed bytes at number under offset u k
+abbrev pub KeyShown : Cipher → (bytes : List ℕ) (at : ℕ) → Option KeyRow → (above key : Option Numbered) → Type 0
+KeyShown sealed bytes at None above None = Unit {0}
+KeyShown sealed bytes at None above (Some k) = ⊥
+KeyShown sealed bytes at (Some row) above None = ⊥
+KeyShown sealed bytes at (Some row) None (Some k) = ⊥
+KeyShown sealed bytes at (Some row) (Some u) (Some k) = KeySealed sealed bytes at row.number row.under row.offset u k
 
 -- From the byte `offset` on stands the content c of a place, sealed under the key k of its node.
 pub record ContentSealed (sealed : Cipher) (bytes : List ℕ) (at number long offset : ℕ) (k : Numbered) (c : List ℕ) : Type 0 where
@@ -35,13 +33,13 @@ pub record ContentSealed (sealed : Cipher) (bytes : List ℕ) (at number long of
   pub text : take (length c + 16) (drop offset bytes) ≡ sealed k.bytes (slot_nonce 0) (head content_tag at number) c
 
 -- What the row of a place says of what hangs there: nothing; or a content under a key.
-abbrev pub ContentShown : Cipher → (bytes : List ℕ) (at : ℕ) → ContentRow → Tree Numbered (List ℕ) → Type 0
-ContentShown sealed bytes at ContentRows.NoContent bare = Unit {0}
-ContentShown sealed bytes at ContentRows.NoContent (leaf k c) = ⊥
-ContentShown sealed bytes at ContentRows.NoContent (node k l r) = ⊥
-ContentShown sealed bytes at (ContentRows.Sealed number long offset) bare = ⊥
-ContentShown sealed bytes at (ContentRows.Sealed number long offset) (leaf k c) = ContentSealed sealed bytes at number long offset k c
-ContentShown sealed bytes at (ContentRows.Sealed number long offset) (node k l r) = ⊥
+abbrev pub ContentShown : Cipher → (bytes : List ℕ) (at : ℕ) → Option ContentRow → Tree Numbered (List ℕ) → Type 0
+ContentShown sealed bytes at None bare = Unit {0}
+ContentShown sealed bytes at None (leaf k c) = ⊥
+ContentShown sealed bytes at None (node k l r) = ⊥
+ContentShown sealed bytes at (Some row) bare = ⊥
+ContentShown sealed bytes at (Some row) (leaf k c) = ContentSealed sealed bytes at row.number row.length row.offset k c
+ContentShown sealed bytes at (Some row) (node k l r) = ⊥
 
 -- The medium shows a tree of so many levels: every node below the root, and every place.
 pub record Shows (sealed : Cipher) (levels : ℕ) (bytes : List ℕ) (rows : Rows) (t : Tree Numbered (List ℕ)) : Type 0 where

@@ -9,8 +9,6 @@ use Rattle.forgetting.specs.Change.{Record, Numbered, records, edited, single, d
 use Rattle.forgetting.specs.History.{root}
 use Rattle.change.specs.Coded.{Cipher, coded, bytes_of}
 use Rattle.change.specs.Outcome.{is_content}
-use Rattle.index.specs.declared.row.KeyRow.TheVariants.{NoKey}
-use Rattle.index.specs.declared.row.ContentRow.TheVariants.{NoContent}
 use Rattle.index.specs.Rows.{key_row, content_row, Empty}
 use Rattle.index.specs.Noted.{Rows, note_all, scanned, AllProper}
 use Rattle.shown.specs.Shown.{KeyShown, Shows, Counts, Marks16, Keeps}
@@ -33,9 +31,9 @@ SiblingAt K C =
 abbrev pub ReadsShown : Type 0
 ReadsShown =
     (sealed : Cipher) (levels : ℕ) (bytes : List ℕ) (rows : Rows) (t : Tree Numbered (List ℕ)) → Shows sealed levels bytes rows t → (p : ℕ) → p < 2 ^ levels →
-    (content_row rows.contents p ≡ NoContent → content_of (place_in levels p t) ≡ None)
-    × (content_of (place_in levels p t) ≡ None → content_row rows.contents p ≡ NoContent)
-    × ((h : ℕ) → h < levels → key_row rows.keys ((2 ^ levels + p) / 2 ^ h) ≡ NoKey → content_of (place_in levels p t) ≡ None)
+    (content_row rows.contents p ≡ None → content_of (place_in levels p t) ≡ None)
+    × (content_of (place_in levels p t) ≡ None → content_row rows.contents p ≡ None)
+    × ((h : ℕ) → h < levels → key_row rows.keys ((2 ^ levels + p) / 2 ^ h) ≡ None → content_of (place_in levels p t) ≡ None)
 
 -- The key of the node on the path, h levels above place p.
 abbrev pub key_above : (levels p h : ℕ) → Tree Numbered (List ℕ) → Option Numbered

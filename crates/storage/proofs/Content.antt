@@ -1,13 +1,11 @@
 -- The content of a place: what was read and opened is what the medium shows.
-use Rattle.std.proofs.Common.{◌≡◌, ℕ, zero, suc, ◌+◌, ◌-◌, ◌^◌, ◌<◌, ◌≤◌, Bool, true, false, List, ◌∷◌, ◌++◌, length, take, drop, Some, Err, Result, sym, refl, ap, ◌∙◌, subst, inl, inr, arith, length-take-le}
-use lib.Seq.{take-append-le, take-append_seam, drop-append_seam}
-use Rattle.cipher.specs.Sealed.{slot_nonce, text_of}
+use Rattle.std.proofs.Common.{◌≡◌, ℕ, zero, suc, ◌+◌, ◌^◌, ◌<◌, ◌≤◌, Bool, true, false, List, ◌∷◌, length, take, drop, Some, Err, Option, sym, refl, ap, ◌∙◌, subst, inl, inr, arith}
+use Rattle.cipher.specs.Sealed.{slot_nonce}
 use Rattle.records.specs.Format.{head}
 use Rattle.forgetting.specs.Tree.{Tree, bare, leaf, node, key_of, even_of, odd_of, Holds, to_even, turn, place_in, content_of}
 use Rattle.forgetting.specs.Change.{Numbered}
 use Rattle.change.specs.Coded.{Cipher}
 use Rattle.index.specs.declared.row.ContentRow.{ContentRow}
-use Rattle.index.specs.declared.row.ContentRow.TheVariants as ContentRows
 use Rattle.index.specs.Rows.{content_row}
 use Rattle.index.specs.Noted.{Rows}
 use Rattle.shown.specs.Shown.{Shows, ContentShown, ContentSealed, Marks16}
@@ -35,26 +33,26 @@ place-holds (suc d) p t c e = side t (to_even d p) (place-holds d p (turn (to_ev
     side (node k l r) false h = inr h
 
 -- A place whose row says that it holds something holds a content under a key.
-pub record InPlace (sealed : Cipher) (bytes : List ℕ) (at number long offset : ℕ) (t : Tree Numbered (List ℕ)) : Type 0 where
+pub record InPlace (sealed : Cipher) (bytes : List ℕ) (at : ℕ) (row : ContentRow) (t : Tree Numbered (List ℕ)) : Type 0 where
   pub key : Numbered
   pub content : List ℕ
   pub has_key : key_of t ≡ Some key
   pub has_content : content_of t ≡ Some content
-  pub stands : ContentSealed sealed bytes at number long offset key content
+  pub stands : ContentSealed sealed bytes at row.number row.length row.offset key content
 
-in_place : (sealed : Cipher) (bytes : List ℕ) (at number long offset : ℕ) (t : Tree Numbered (List ℕ)) → ContentShown sealed bytes at (ContentRows.Sealed number long offset) t → InPlace sealed bytes at number long offset t
-in_place sealed bytes at number long offset bare s = absurd s
-in_place sealed bytes at number long offset (leaf k c) s = record { key = k; content = c; has_key = refl; has_content = refl; stands = s }
-in_place sealed bytes at number long offset (node k l r) s = absurd s
+in_place : (sealed : Cipher) (bytes : List ℕ) (at : ℕ) (row : ContentRow) (t : Tree Numbered (List ℕ)) → ContentShown sealed bytes at (Some row) t → InPlace sealed bytes at row t
+in_place sealed bytes at row bare s = absurd s
+in_place sealed bytes at row (leaf k c) s = record { key = k; content = c; has_key = refl; has_content = refl; stands = s }
+in_place sealed bytes at row (node k l r) s = absurd s
 
-module _ (sealed : Cipher) (levels place number long offset : ℕ) (rows : Rows) (lp : place < 2 ^ levels) (row : content_row rows.contents place ≡ ContentRows.Sealed number long offset) where
-  row_in_place : (bytes : List ℕ) (t : Tree Numbered (List ℕ)) → Shows sealed levels bytes rows t → InPlace sealed bytes (2 ^ levels + place) number long offset (place_in levels place t)
+module _ (sealed : Cipher) (levels place : ℕ) (row : ContentRow) (rows : Rows) (lp : place < 2 ^ levels) (is_row : content_row rows.contents place ≡ Some row) where
+  row_in_place : (bytes : List ℕ) (t : Tree Numbered (List ℕ)) → Shows sealed levels bytes rows t → InPlace sealed bytes (2 ^ levels + place) row (place_in levels place t)
   row_in_place bytes t s =
-      let P : ContentRow → Type 0 = λ r. ContentShown sealed bytes (2 ^ levels + place) r (place_in levels place t) in
-      in_place sealed bytes (2 ^ levels + place) number long offset (place_in levels place t) (subst P row (s.contents place lp))
+      let P : Option ContentRow → Type 0 = λ r. ContentShown sealed bytes (2 ^ levels + place) r (place_in levels place t) in
+      in_place sealed bytes (2 ^ levels + place) row (place_in levels place t) (subst P is_row (s.contents place lp))
 
   -- How long it is.
-  pub row_long : (root : List ℕ) (before after : List Event) → OfShown sealed levels rows root before after (λ t. (c : List ℕ) × (content_of (place_in levels place t) ≡ Some c) × (long ≡ length c) × (length c ≤ 4096))
+  pub row_long : (root : List ℕ) (before after : List Event) → OfShown sealed levels rows root before after (λ t. (c : List ℕ) × (content_of (place_in levels place t) ≡ Some c) × (row.length ≡ length c) × (length c ≤ 4096))
   row_long root before after first last t f s =
       let i = row_in_place (held first before) t s.shows in
       (i.content, i.has_content, i.stands.length-is, (s.counts.contents i.content (place-holds levels place t i.content i.has_content)).1)
@@ -63,56 +61,36 @@ module _ (sealed : Cipher) (levels place number long offset : ℕ) (rows : Rows)
       (above : OfShown sealed levels rows root before middle (KeyAt key levels place)) where
     -- What stands there, sealed under the key at hand.
     sealed_here : (first : List ℕ) (last : ℕ) (t : Tree Numbered (List ℕ)) → Faithful first middle → Showing sealed levels last first before rows root t
-        → (c : List ℕ) × (content_of (place_in levels place t) ≡ Some c) × (long ≡ length c) × (take (length c + 16) (drop offset (held first middle)) ≡ sealed key (slot_nonce 0) (head 67 (2 ^ levels + place) number) c)
+        → (c : List ℕ) × (content_of (place_in levels place t) ≡ Some c) × (row.length ≡ length c) × (take (length c + 16) (drop row.offset (held first middle)) ≡ sealed key (slot_nonce 0) (head 67 (2 ^ levels + place) row.number) c)
     sealed_here first last t f s =
         let i = row_in_place (held first before) t s.shows in
         let is = above first last t f s i.key i.has_key in (
           i.content,
           i.has_content,
           i.stands.length-is,
-          ap (λ b. take (length i.content + 16) (drop offset b)) (same-held first middle before same) ∙ i.stands.text ∙ ap (λ k. sealed k (slot_nonce 0) (head 67 (2 ^ levels + place) number) i.content) (sym is),
+          ap (λ b. take (length i.content + 16) (drop row.offset b)) (same-held first middle before same) ∙ i.stands.text ∙ ap (λ k. sealed k (slot_nonce 0) (head 67 (2 ^ levels + place) row.number) i.content) (sym is),
         )
 
     -- Opened, it is the place's content.
-    pub content-opened : (text : List ℕ) → length text ≡ long → after ≡ got offset (sealed key (slot_nonce 0) (head 67 (2 ^ levels + place) number) text) ∷ middle
+    pub content-opened : (text : List ℕ) → length text ≡ row.length → after ≡ got row.offset (sealed key (slot_nonce 0) (head 67 (2 ^ levels + place) row.number) text) ∷ middle
         → OfShown sealed levels rows root before after (λ t. content_of (place_in levels place t) ≡ Some text)
     content-opened text lt e first last t f s =
-        let w = faithful_got first offset (sealed key (slot_nonce 0) (head 67 (2 ^ levels + place) number) text) middle (subst (Faithful first) e f) in
+        let w = faithful_got first row.offset (sealed key (slot_nonce 0) (head 67 (2 ^ levels + place) row.number) text) middle (subst (Faithful first) e f) in
         let i = sealed_here first last t w.1 s in
         let n : length text + 16 ≡ length i.0 + 16 = omega (arith, i.2) in
-        i.1 ∙ ap Some (sym (same_text sealed marks apart (held first middle) offset (length i.0 + 16) key (slot_nonce 0) (head 67 (2 ^ levels + place) number) text i.0 lk n w.0 i.3))
+        i.1 ∙ ap Some (sym (same_text sealed marks apart (held first middle) row.offset (length i.0 + 16) key (slot_nonce 0) (head 67 (2 ^ levels + place) row.number) text i.0 lk n w.0 i.3))
 
     -- It opens; where it ends early, the medium failed.
-    pub content-ends : (X : Type 0) (why : Failure) (text : List ℕ) → Opens {X = X} (sealed key (slot_nonce 0) (head 67 (2 ^ levels + place) number)) offset (long + 16) middle after (Err why) text
+    pub content-ends : (X : Type 0) (why : Failure) (text : List ℕ) → Opens {X = X} (sealed key (slot_nonce 0) (head 67 (2 ^ levels + place) row.number)) row.offset (row.length + 16) middle after (Err why) text
         → (changes after ≡ changes before) × OfShown sealed levels rows root before after (λ t. Fails why)
     content-ends X (Refused why) text o = (
-      ap changes o.1.was_read ∙ changes-got offset o.1.part middle ∙ same,
+      ap changes o.1.was_read ∙ changes-got row.offset o.1.part middle ∙ same,
       λ first last t f s.
-          let w = faithful_got first offset o.1.part middle (subst (Faithful first) o.1.was_read f) in
+          let w = faithful_got first row.offset o.1.part middle (subst (Faithful first) o.1.was_read f) in
           let i = sealed_here first last t w.1 s in
           let n : length o.1.part ≡ length i.0 + 16 = o.1.long ∙ ap (λ x. x + 16) i.2 in
-          o.1.no_text i.0 (sym w.0.0 ∙ ap (λ x. take x (drop offset (held first middle))) n ∙ i.3),
+          o.1.no_text i.0 (sym w.0.0 ∙ ap (λ x. take x (drop row.offset (held first middle))) n ∙ i.3),
     )
     content-ends X Device text o = (ap changes o ∙ same, λ first last t f s. tt)
     content-ends X Memory text o = absurd o
     content-ends X Stopped text o = absurd o
-
--- What was opened in a part of the room stands at its front.
-pub at_the_front : (X : Type 0) (seals : List ℕ → List ℕ) (offset count : ℕ) (before after : List Event) (r : Result X Failure) (part rest room : List ℕ) → length part ≡ length (take (count + 16 - 0) room) → count + 16 ≤ length room
-    → Opens seals offset (length (take (count + 16 - 0) room)) before after r (text_of part) → Opens seals offset (count + 16) before after r (take count (part ++ rest))
-at_the_front X seals offset count before after r part rest room lp lr o =
-    let n : length (take (count + 16 - 0) room) ≡ count + 16 = length-take-le (count + 16 - 0) room (omega arith) ∙ omega arith in
-    let m : length part - 16 ≡ count = omega arith in
-    let t : text_of part ≡ take count (part ++ rest) = ap (λ x. take x part) m ∙ sym (take-append-le count part rest (omega arith)) in
-    let P : ℕ → List ℕ → Type 0 = λ x y. Opens seals offset x before after r y in
-    subst (λ y. P (count + 16) y) t (subst (λ x. P x (text_of part)) n o)
-
--- What was copied to the front of a buffer stands there, and the rest is as it was.
-pub copied : (n : ℕ) (copy room buffer : List ℕ) → n ≤ length room → copy ≡ take (n - 0) room → (take n (copy ++ drop (n - 0) buffer) ≡ take n room) × (drop n (copy ++ drop (n - 0) buffer) ≡ drop n buffer)
-copied n copy room buffer lr e =
-    let m : n - 0 ≡ n = omega arith in
-    let is : copy ≡ take n room = e ∙ ap (λ x. take x room) m in
-    let l : length copy ≡ n = ap length is ∙ length-take-le n room lr in (
-      ap (λ x. take x (copy ++ drop (n - 0) buffer)) (sym l) ∙ take-append_seam copy (drop (n - 0) buffer) ∙ is,
-      ap (λ x. drop x (copy ++ drop (n - 0) buffer)) (sym l) ∙ drop-append_seam copy (drop (n - 0) buffer) ∙ ap (λ x. drop x buffer) m,
-    )

@@ -1,4 +1,3 @@
-pub mod Keyless
 pub mod Content
 pub mod Answered
 pub mod Changing

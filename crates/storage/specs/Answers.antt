@@ -4,13 +4,10 @@ use Rattle.tree.specs.Answers.{number_of}
 use Rattle.tree.specs.declared.answer.Refusal.{Refusal}
 use Rattle.tree.specs.declared.answer.Refusal.TheVariants.{NoSuchPlace, Nothing}
 use Rattle.index.specs.declared.row.ContentRow.{ContentRow}
-use Rattle.index.specs.declared.row.ContentRow.TheVariants.{NoContent, Sealed}
 use Rattle.forgetting.specs.Tree.{Tree, place_in, content_of}
 use Rattle.forgetting.specs.Change.{Numbered}
 use Rattle.descent.specs.declared.failure.Failure.{Failure}
 use Rattle.descent.specs.declared.failure.Failure.TheVariants.{Refused, Memory, Device, Stopped}
-use Rattle.storage.specs.declared.reading.Reading.{Reading}
-use Rattle.storage.specs.declared.reading.Reading.TheVariants.{Content, Failed}
 
 -- content: these bytes. done: the change was made. refused: by that number, and nothing has changed. memory: there was none, and nothing has changed. device: one failed while something was read, and nothing has changed. stopped: a device failed in the middle of a change, and the store has not come up since.
 pub data Answer : Type 0 where
@@ -28,9 +25,9 @@ failure_of Device = device
 failure_of Stopped = stopped
 
 -- Of a reading into a buffer.
-abbrev pub reading_of : Reading → (buffer : List ℕ) → Answer
-reading_of (Content n) buffer = content (take n buffer)
-reading_of (Failed why) buffer = failure_of why
+abbrev pub reading_of : Result ℕ Failure → (buffer : List ℕ) → Answer
+reading_of (Ok n) buffer = content (take n buffer)
+reading_of (Err why) buffer = failure_of why
 
 -- Of a put or a taking out.
 abbrev pub change_of : {X : Type 0} → Result X Failure → Answer
@@ -51,9 +48,9 @@ change_answer None = done
 change_answer (Some why) = refused (number_of why)
 
 -- Why reading is refused before anything is opened, by the place and its row in the index: no such place, nothing there, or a content longer than the buffer.
-abbrev pub row_refusal : (room : ℕ) → ContentRow → Option Refusal
-row_refusal room NoContent = Some Nothing
-row_refusal room (Sealed number long offset) = cond (nat_le long room) None (Some NoSuchPlace)
+abbrev pub row_refusal : (room : ℕ) → Option ContentRow → Option Refusal
+row_refusal room None = Some Nothing
+row_refusal room (Some row) = cond (nat_le row.length room) None (Some NoSuchPlace)
 
-abbrev pub read_refusal : (levels place room : ℕ) → ContentRow → Option Refusal
+abbrev pub read_refusal : (levels place room : ℕ) → Option ContentRow → Option Refusal
 read_refusal levels place room row = cond (nat_lt place (2 ^ levels)) (row_refusal room row) (Some NoSuchPlace)

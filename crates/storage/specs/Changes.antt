@@ -7,11 +7,18 @@ use Rattle.change.specs.Coded.{Cipher}
 use Rattle.change.specs.Nodes.{bytes_in}
 use Rattle.change.specs.Outcome.{refusal}
 use Rattle.devices.specs.Events.{appended, synced, changes, Faithful}
+use Rattle.tree.specs.declared.leaf.Leaf.{Leaf}
+use Rattle.tree.specs.declared.answer.Refusal.{Refusal}
 use Rattle.descent.specs.declared.failure.Failure.{Failure}
 use Rattle.descent.specs.declared.failure.Failure.TheVariants.{Refused, Memory, Device, Stopped}
 use Rattle.storage.specs.Seats.{State, AllZeros}
 use Rattle.storage.specs.Standing.{Standing}
 use Rattle.storage.specs.Prepares.{change_with, record_bytes}
+
+-- The place that is changed; or that the change is refused, whatever keys are handed in.
+abbrev pub Allows : (levels place : ℕ) → Option (List ℕ) → Result Leaf Refusal → Type 0
+Allows levels place w (Ok leaf) = (leaf.levels ≡ levels) × (leaf.place ≡ place)
+Allows levels place w (Err why) = (given last : ℕ) → refusal levels place w given last ≡ Some why
 
 -- The root's new key.
 abbrev pub new_root : (levels last : ℕ) → Option (List ℕ) → (keys : List Key) → Numbered

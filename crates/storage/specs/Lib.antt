@@ -1,7 +1,7 @@
 pub mod Seats
-pub mod Memory
 pub mod Standing
 pub mod Reads
 pub mod Answers
 pub mod Prepares
 pub mod Changes
+pub mod States

@@ -10,13 +10,6 @@ use Rattle.change.specs.Outcome.{refusal}
 use Rattle.descent.specs.Path.{Running}
 use Rattle.descent.specs.declared.failure.Failure.{Failure}
 use Rattle.descent.specs.declared.failure.Failure.TheVariants.{Refused, Memory, Device, Stopped}
-use Rattle.storage.specs.declared.what.What.{What}
-use Rattle.storage.specs.declared.what.What.TheVariants.{Put, Out}
-
--- The content that is put in, if any.
-abbrev pub content_in : What → Option (List ℕ)
-content_in (Put content) = Some content.now
-content_in Out = None
 
 -- THE CHANGE of a place with these keys, which are counted on from the last number; and its records as bytes, in a tree.
 abbrev pub change_with : (levels place last : ℕ) → Option (List ℕ) → (keys : List Key) → Edit Numbered (List ℕ)

@@ -1,5 +1,5 @@
 -- The chip in its seat, and how a change is made to last.
-use Rattle.std.specs.Prelude.{◌≡◌, ℕ, ◌+◌, ◌<◌, ◌⊎◌, List, [], ◌∷◌, length, replicate, Some, None, Ok, Err, Option, Result}
+use Rattle.std.specs.Prelude.{◌≡◌, ℕ, ◌+◌, ◌<◌, ◌⊎◌, List, ◌∷◌, length, replicate, Some, None, Ok, Err, Option, Result}
 use Rattle.sealing.specs.declared.key.Key.{Key}
 use Rattle.forgetting.specs.Change.{Numbered}
 use Rattle.change.specs.Nodes.{bytes_in}
@@ -8,34 +8,29 @@ use Rattle.devices.specs.Events.{Event, appended, synced}
 use Rattle.devices.specs.Given.{Given, given_now}
 use Rattle.descent.specs.declared.failure.Failure.{Failure}
 use Rattle.descent.specs.declared.failure.Failure.TheVariants.{Refused, Memory, Device, Stopped}
+use Rattle.storage.specs.declared.seat.Condition.TheVariants.{Ready, Halted}
 use Rattle.storage.specs.declared.seat.Seat.{Seat}
-use Rattle.storage.specs.declared.seat.Seat.TheVariants as seats
 
 -- What a chip that can be used holds; none where a device failed in the middle of a change.
 abbrev pub chip_in : {C : Type 0} → (holds : C → Numbered) → Seat C → Option Numbered
-chip_in holds (seats.Ready chip) = Some (holds chip)
-chip_in holds (seats.Halted chip) = None
-chip_in holds seats.Away = None
+chip_in holds seat = elim seat.condition [ Ready ↦ Some (holds seat.chip) | Halted ↦ None ]
 
 -- What the chip was given.
 abbrev pub given_in : {C : Type 0} → (given : C → List Given) → Seat C → List Given
-given_in given (seats.Ready chip) = given chip
-given_in given (seats.Halted chip) = given chip
-given_in given seats.Away = []
+given_in given seat = given seat.chip
 
 -- What writing records comes to: they are synced; or a device failed before that was answered.
 abbrev pub Writes : {X : Type 0} → (records : List ℕ) (log : List Event) → Result X Failure → (log-after : List Event) → Type 0
 Writes records log (Ok _) log-after = log-after ≡ synced ∷ (appended records ∷ log)
 Writes records log (Err why) log-after = (why ≡ Stopped) × (log-after ≡ appended records ∷ log)
 
--- What giving the chip a key comes to: it holds that key and no other; or it failed, or there was none that could be used.
-abbrev pub Turns : {C X : Type 0} → (holds : C → Numbered) (given : C → List Given) → Given → Seat C → Result X Failure → Seat C → Type 0
-Turns holds given new (seats.Ready chip) (Ok _) after = (chip_in holds after ≡ Some new.key) × (given_in given after ≡ new ∷ given chip)
-Turns holds given new (seats.Ready chip) (Err why) after = (why ≡ Stopped) × (chip_in holds after ≡ None) × (given_in given after ≡ new ∷ given chip)
-Turns holds given new (seats.Halted chip) (Ok _) after = ⊥
-Turns holds given new (seats.Halted chip) (Err why) after = (why ≡ Stopped) × (after ≡ seats.Halted chip)
-Turns holds given new seats.Away (Ok _) after = ⊥
-Turns holds given new seats.Away (Err why) after = (why ≡ Stopped) × (after ≡ seats.Away)
+-- What giving the chip a key comes to: it holds that key and no other; or it failed, and can't be used any more; or it could not be used before, and nothing has changed.
+abbrev pub Turns : {C X : Type 0} → (holds : C → Numbered) (given : C → List Given) → Given → (before : Seat C) → Result X Failure → (after : Seat C) → Type 0
+Turns holds given new before (Ok _) after =
+    (before.condition ≡ Ready) × (chip_in holds after ≡ Some new.key) × (given_in given after ≡ new ∷ given_in given before)
+Turns holds given new before (Err why) after =
+    (why ≡ Stopped) × (chip_in holds after ≡ None)
+    × (((before.condition ≡ Ready) × (given_in given after ≡ new ∷ given_in given before)) ⊎ ((before.condition ≡ Halted) × (after ≡ before)))
 
 -- THE ORDER OF A CHANGE: its records, then a sync, and only then the chip gets the root's new key.
 pub record Lasts (records : List ℕ) (key : Numbered) (log : List Event) (given : List Given) (log-after : List Event) (given-after : List Given) : Type 0 where

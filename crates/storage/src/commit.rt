@@ -1,46 +1,29 @@
 // Making a change last.
 ghost use Rattle.std.specs.Prelude.{◌≡◌, ℕ, ◌<◌, ◌≤◌, List, ◌∷◌, length, Some, None, Ok, Err};
 ghost use Rattle.change.specs.Nodes.{bytes_in};
-ghost use Rattle.index.specs.Noted.{rows_of};
 ghost use Rattle.devices.specs.Events.{appended, synced};
 ghost use Rattle.devices.specs.Given.{given_now};
 ghost use Rattle.storage.specs.Seats.{chip_in, given_in, Writes, Turns, Commits, Finishes};
+ghost use Rattle.storage.specs.States.{state_of};
 
-use crate::seat::Seat;
+use crate::seat::{Condition, Seat};
+use crate::state::Store;
 use change::keys::wipe_keys;
 use descent::failure::Failure;
-use devices::chip::{Chip, Replaced};
+use devices::chip::Chip;
 use devices::medium::Medium;
-use index::Index;
 use sealing::key::Key;
-
-// The chip can't be used any more before the store comes up.
-fn halt<C: Chip + Drop>(seat: &mut Seat<C>)
-    ensures chip { chip_in C.holds seat.new ≡ None }
-    ensures given { given_in C.given seat.new ≡ given_in C.given seat.old }
-{
-    match std::mem::replace(seat, Seat::Away) {
-        Seat::Ready(chip) => *seat = Seat::Halted(chip),
-        Seat::Halted(chip) => *seat = Seat::Halted(chip),
-        Seat::Away => {}
-    }
-}
 
 // Records at the end of the medium, and synced.
 fn write_records<M: Medium>(medium: &mut M, records: &[u8]) -> Result<(), Failure>
     ensures { Writes records.now (M.log medium.old) result (M.log medium.new) }
 {
-    let Ok(()) = medium.append(records) else {
-        return Err(Failure::Stopped);
-    };
-    let Ok(()) = medium.sync() else {
-        return Err(Failure::Stopped);
-    };
-    Ok(())
+    medium.append(records).map_err(|_| Failure::Stopped)?;
+    medium.sync().map_err(|_| Failure::Stopped)
 }
 
 // The chip gets a key in place of the one that it holds.
-fn turn_chip<M: Medium, C: Chip + Drop>(
+fn turn_chip<M: Medium, C: Chip>(
     medium: &M,
     seat: &mut Seat<C>,
     key: &Key,
@@ -48,27 +31,18 @@ fn turn_chip<M: Medium, C: Chip + Drop>(
 ) -> Result<(), Failure>
     ensures { Turns C.holds C.given (given_now number key.now.bytes (M.log medium.now)) seat.old result seat.new }
 {
-    match std::mem::replace(seat, Seat::Away) {
-        Seat::Ready(chip) => match chip.replaced(key, number, medium) {
-            Replaced::Done(chip) => {
-                *seat = Seat::Ready(chip);
-                Ok(())
-            }
-            Replaced::Failed(chip) => {
-                *seat = Seat::Halted(chip);
-                Err(Failure::Stopped)
-            }
-        },
-        Seat::Halted(chip) => {
-            *seat = Seat::Halted(chip);
-            Err(Failure::Stopped)
-        }
-        Seat::Away => Err(Failure::Stopped),
+    let Condition::Ready = seat.condition else {
+        return Err(Failure::Stopped);
+    };
+    if seat.chip.replace(key, number, medium).is_err() {
+        seat.condition = Condition::Halted;
+        return Err(Failure::Stopped);
     }
+    Ok(())
 }
 
 // The records of a change, then a sync, and only then the chip. Where a device fails, the store stops.
-pub(crate) fn commit<M: Medium, C: Chip + Drop>(
+pub(crate) fn commit<M: Medium, C: Chip>(
     medium: &mut M,
     seat: &mut Seat<C>,
     records: &[u8],
@@ -78,7 +52,7 @@ pub(crate) fn commit<M: Medium, C: Chip + Drop>(
     ensures { Commits C.holds C.given records.now (record { number = number; bytes = key.now.bytes }) (M.log medium.old) (M.log medium.new) seat.old result seat.new }
 {
     if let Err(why) = write_records(medium, records) {
-        halt(seat);
+        seat.condition = Condition::Halted;
         return Err(why);
     }
     turn_chip(medium, seat, key, number)
@@ -87,33 +61,28 @@ pub(crate) fn commit<M: Medium, C: Chip + Drop>(
 // The most bytes that a medium can have.
 const MOST: u64 = 1 << 62;
 
-// Makes a change last that is written in `records`, with key `i` for the chip, wipes all keys, and notes what was written.
-pub(crate) fn finish<M: Medium, C: Chip + Drop>(
-    medium: &mut M,
-    seat: &mut Seat<C>,
-    index: &mut Index,
-    end: &mut u64,
-    levels: u32,
-    records: &[u8],
-    keys: &mut [Key],
-    i: usize,
-    number: u32,
-) -> Result<(), Failure>
-    requires { (i < length keys.old) × (levels ≤ 19) }
-    ensures { Finishes levels records.now (record { number = number; bytes = bytes_in keys.old i }) (record { log = M.log medium.old; rows = rows_of index.old; end = end.old; chip = chip_in C.holds seat.old; given = given_in C.given seat.old; keys = keys.old }) result (record { log = M.log medium.new; rows = rows_of index.new; end = end.new; chip = chip_in C.holds seat.new; given = given_in C.given seat.new; keys = keys.new }) }
-{
-    let count = records.len() as u64;
-    if count >= MOST || *end >= MOST {
-        return Err(Failure::Device);
-    }
-    let done = commit(medium, seat, records, &keys[i], number);
-    wipe_keys(keys);
-    match done {
-        Ok(()) => {
-            index.note_all(levels, *end, records);
-            *end += count;
-            Ok(())
+impl<S, M: Medium, C: Chip> Store<S, M, C> {
+    // Makes a change last whose records are written, with key `i` for the chip, wipes all keys, and notes what was written.
+    pub(crate) fn finish(&mut self, keys: &mut [Key], i: usize, number: u32) -> Result<(), Failure>
+        requires { i < length keys.old }
+        ensures levels { self.new.levels ≡ self.old.levels }
+        ensures finishes { Finishes self.old.levels self.old.records.items (record { number = number; bytes = bytes_in keys.old i }) (state_of M.log C.holds C.given self.old keys.old) result (state_of M.log C.holds C.given self.new keys.new) }
+    {
+        let count = self.records.len() as u64;
+        if count >= MOST || self.end >= MOST {
+            return Err(Failure::Device);
         }
-        Err(why) => Err(why),
+        let done = commit(
+            &mut self.source.medium,
+            &mut self.seat,
+            &self.records,
+            &keys[i],
+            number,
+        );
+        wipe_keys(keys);
+        done?;
+        self.index.note_all(self.levels, self.end, &self.records);
+        self.end += count;
+        Ok(())
     }
 }

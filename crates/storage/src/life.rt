@@ -7,11 +7,12 @@ ghost use Rattle.index.specs.Noted.{rows_of};
 ghost use Rattle.storage.specs.Seats.{chip_in};
 ghost use Rattle.storage.specs.Standing.{Standing, NotBegun};
 
-use crate::seat::Seat;
+use crate::seat::{Condition, Seat};
 use crate::state::Store;
 use crate::work::Work;
 use cipher::sealing_trait::Sealing;
 use descent::failure::Failure;
+use descent::source::Source;
 use devices::chip::Chip;
 use devices::medium::Medium;
 use index::Index;
@@ -34,7 +35,7 @@ fn make_parts(heap: Global, levels: u32) -> Result<(Index, Work), AllocError>
 impl<S: Sealing + Drop, M: Medium + Drop, C: Chip + Drop> Store<S, M, C> {
     // An empty store over an empty medium and a chip that has not been given a key yet. One that has is newer than the medium: the medium is old. There is no store of no levels, or of more than 19.
     pub fn new(heap: Global, cipher: S, medium: M, chip: C, levels: u32) -> Result<Self, Failure>
-        ensures { elim result [ Ok s ↦ (s.levels ≡ levels) × (chip_in C.holds s.seat ≡ Some (C.holds chip)) × ((first : List ℕ) → held first (M.log medium) ≡ [] → C.holds chip ≡ record { number = 0; bytes = replicate 32 0 } → Standing S.sealed levels first (M.log s.medium) (rows_of s.index) s.end (C.holds chip) bare) | Err why ↦ NotBegun levels (C.holds chip).number why ] }
+        ensures { elim result [ Ok s ↦ (s.levels ≡ levels) × (chip_in C.holds s.seat ≡ Some (C.holds chip)) × ((first : List ℕ) → held first (M.log medium) ≡ [] → C.holds chip ≡ record { number = 0; bytes = replicate 32 0 } → Standing S.sealed levels first (M.log s.source.medium) (rows_of s.index) s.end (C.holds chip) bare) | Err why ↦ NotBegun levels (C.holds chip).number why ] }
     {
         if levels < 1 || levels > MOST_LEVELS {
             return Err(Failure::Refused(Refusal::NoSuchPlace));
@@ -42,13 +43,13 @@ impl<S: Sealing + Drop, M: Medium + Drop, C: Chip + Drop> Store<S, M, C> {
         if chip.number() != 0 {
             return Err(Failure::Refused(Refusal::Old));
         }
-        let Ok((index, work)) = make_parts(heap, levels) else {
-            return Err(Failure::Memory);
-        };
+        let (index, work) = make_parts(heap, levels)?;
         Ok(Store {
-            cipher,
-            medium,
-            seat: Seat::Ready(chip),
+            source: Source { cipher, medium },
+            seat: Seat {
+                chip,
+                condition: Condition::Ready,
+            },
             index,
             levels,
             end: 0,
@@ -61,11 +62,10 @@ impl<S: Sealing + Drop, M: Medium + Drop, C: Chip + Drop> Store<S, M, C> {
 impl<S: Sealing + Drop, M: Medium, C: Chip> Store<S, M, C> {
     // The devices again; nothing is left of the store.
     pub fn into_devices(self) -> (M, Seat<C>)
-        ensures { (result.0 ≡ self.medium) × (result.1 ≡ self.seat) }
+        ensures { (result.0 ≡ self.source.medium) × (result.1 ≡ self.seat) }
     {
         let Store {
-            cipher: _,
-            medium,
+            source,
             seat,
             index: _,
             levels: _,
@@ -73,6 +73,7 @@ impl<S: Sealing + Drop, M: Medium, C: Chip> Store<S, M, C> {
             work,
             records: _,
         } = self;
+        let Source { cipher: _, medium } = source;
         work.let_go();
         (medium, seat)
     }

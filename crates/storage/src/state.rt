@@ -3,15 +3,12 @@ ghost use Rattle.std.specs.Prelude.{◌≡◌, ◌≤◌, vec_len};
 
 use crate::seat::Seat;
 use crate::work::Work;
-use cipher::sealing_trait::Sealing;
-use devices::chip::Chip;
-use devices::medium::Medium;
+use descent::source::Source;
 use index::Index;
 
 // Places, over a medium and a chip. The index says where the medium has what; no key is in memory but the chip's.
-pub struct Store<S: Sealing, M: Medium, C: Chip> {
-    pub(crate) cipher: S,
-    pub(crate) medium: M,
+pub struct Store<S, M, C> {
+    pub(crate) source: Source<S, M>,
     pub(crate) seat: Seat<C>,
     pub(crate) index: Index,
     pub(crate) levels: u32,

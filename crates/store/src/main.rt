@@ -17,48 +17,43 @@ fn read_byte(input: &mut impl Read) -> io::Result<Option<u8>> {
     Ok(if count == 0 { None } else { Some(byte[0]) })
 }
 
-// The next line, without its line feed; false at the end of the input. It is read a byte at a time, so that no buffer but this one has what stands in it.
-fn read_line(input: &mut impl Read, line: &mut Vec<u8>) -> io::Result<bool> {
+// The next line in place of what stands in a buffer, without its line feed; none at the end of the input. It is read a byte at a time, so that no buffer but this one has what stands in it.
+fn read_line<'a>(input: &mut impl Read, line: &'a mut Vec<u8>) -> io::Result<Option<&'a mut [u8]>> {
+    line.clear();
     for _ in 0..u64::MAX {
         match read_byte(input)? {
-            None => return Ok(line.len() > 0),
-            Some(b'\n') => return Ok(true),
+            None if line.is_empty() => return Ok(None),
+            None | Some(b'\n') => return Ok(Some(line)),
             Some(byte) => line.push(byte)?,
         }
     }
-    Ok(false)
+    Ok(None)
 }
 
 // A medium that has bytes was written by an earlier session.
 fn open_medium(rt: &HostRuntime, path: &str) -> anyhow::Result<FileMedium> {
     let medium = FileMedium::open(rt, path)?;
-    match medium.len() {
-        Ok(0) => Ok(medium),
-        Ok(_) => Err(anyhow!(
+    let length = medium
+        .len()
+        .map_err(|_| anyhow!("the medium can't be read"))?;
+    if length > 0 {
+        return Err(anyhow!(
             "the medium is not empty: a store that was there before can't be opened yet"
-        )),
-        Err(_) => Err(anyhow!("the medium can't be read")),
+        ));
     }
-}
-
-fn open_chip(rt: &HostRuntime, path: &str) -> anyhow::Result<FileChip> {
-    match FileChip::open(rt, path) {
-        Ok(chip) => Ok(chip),
-        Err(why) => Err(anyhow!("{why}")),
-    }
+    Ok(medium)
 }
 
 // Answers each line as soon as it is read, and wipes it.
 fn answer_lines(rt: &HostRuntime, session: &mut Session) -> anyhow::Result<()> {
     let mut input = rt.stdin();
-    let mut line = Vec::with_capacity(rt.alloc(), LINE)?;
+    let mut buffer = Vec::with_capacity(rt.alloc(), LINE)?;
     for _ in 0..u64::MAX {
-        if !read_line(&mut input, &mut line)? {
+        let Some(line) = read_line(&mut input, &mut buffer)? else {
             break;
-        }
-        let answer = session.answer(&line);
-        octets::wipe(&mut line);
-        line.clear();
+        };
+        let answer = session.answer(line);
+        octets::wipe(line);
         if let Some(text) = answer? {
             println!(rt; "{text}")?;
         }
@@ -70,19 +65,14 @@ fn run(rt: &HostRuntime) -> anyhow::Result<()> {
     let mut args = env::args(rt)?.skip(1);
     let medium_path = args.next();
     let chip_path = args.next();
-    let medium = match &medium_path {
-        Some(path) => open_medium(rt, path.as_str())?,
-        None => open_medium(rt, "medium")?,
-    };
-    let chip = match &chip_path {
-        Some(path) => open_chip(rt, path.as_str())?,
-        None => open_chip(rt, "chip")?,
-    };
-    let Ok(mut session) = Session::new(rt.alloc(), medium, chip) else {
-        return Err(anyhow!(
+    let medium = open_medium(rt, medium_path.as_deref().unwrap_or("medium"))?;
+    let chip = FileChip::open(rt, chip_path.as_deref().unwrap_or("chip"))?;
+    let opened = Session::new(rt.alloc(), medium, chip);
+    let mut session = opened.map_err(|_| {
+        anyhow!(
             "the chip has a key, and the medium is empty: the medium is old (4), or there is no memory"
-        ));
-    };
+        )
+    })?;
     let answered = answer_lines(rt, &mut session);
     session.end();
     answered

@@ -1,17 +1,15 @@
 // What a chip was given, as no code holds it.
-ghost use Rattle.std.specs.Prelude.{◌≡◌, ℕ, List, [], ◌∷◌, length};
+ghost use Rattle.std.specs.Prelude.{◌≡◌, List, [], ◌∷◌};
 ghost use Rattle.std.specs.Borrow.{ftrue};
-ghost use Rattle.devices.specs.Events.{changes};
-ghost use Rattle.devices.specs.Given.{given_now};
-ghost use Rattle.trace.specs.Asked.{givens};
+ghost use Rattle.devices.specs.Given.{Given, given_now};
 
 use devices::medium::Medium;
 use sealing::key::Key;
 use std::marker::Model;
 
-// The newest key first; each has a number and its bytes, after how many changes it was given, and `givens` reads them.
+// The newest key first.
 pub struct Ledger {
-    ghost keys: { List (ℕ × (ℕ × List ℕ)) },
+    ghost keys: { List Given },
 }
 
 impl Model for Ledger {
@@ -26,7 +24,7 @@ impl Drop for Ledger {
 
 // The ledger after a key more, given beside a medium.
 fn longer<M: Medium>(old: &Ledger, number: u32, key: &Key, medium: &M) -> Ledger
-    ensures { result.keys ≡ (length (changes (M.log medium.now)), (number, key.now.bytes)) ∷ old.now.keys }
+    ensures { result.keys ≡ given_now number key.now.bytes (M.log medium.now) ∷ old.now.keys }
 {
     Ledger {}
 }
@@ -40,13 +38,13 @@ fn none() -> Ledger
 
 impl Ledger {
     pub fn new() -> Ledger
-        ensures { givens result.keys ≡ [] }
+        ensures { result.keys ≡ [] }
     {
         none()
     }
 
     pub fn given<M: Medium>(&self, number: u32, key: &Key, medium: &M) -> Ledger
-        ensures { givens result.keys ≡ given_now number key.now.bytes (M.log medium.now) ∷ givens self.now.keys }
+        ensures { result.keys ≡ given_now number key.now.bytes (M.log medium.now) ∷ self.now.keys }
     {
         longer(self, number, key, medium)
     }

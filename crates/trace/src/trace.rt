@@ -1,14 +1,15 @@
 // What was asked of a medium and what it answered, as no code holds it.
-ghost use Rattle.std.specs.Prelude.{◌≡◌, ℕ, List, [], ◌∷◌};
+ghost use Rattle.std.specs.Prelude.{◌≡◌, List, [], ◌∷◌};
 ghost use Rattle.std.specs.Borrow.{ftrue};
-ghost use Rattle.devices.specs.Events.{appended, synced, cut, got};
-ghost use Rattle.trace.specs.Asked.{events};
+ghost use Rattle.devices.specs.Events.{Event, appended, synced, cut, got};
+ghost use Rattle.trace.specs.Asked.{event};
 
+use crate::asked::Asked;
 use std::marker::Model;
 
-// The newest event first; each has a kind, a number and bytes, and `events` reads them.
+// The newest event first.
 pub struct Trace {
-    ghost asked: { List (ℕ × (ℕ × List ℕ)) },
+    ghost asked: { List Event },
 }
 
 impl Model for Trace {
@@ -22,8 +23,8 @@ impl Drop for Trace {
 }
 
 // The trace after one event more.
-fn longer(old: &Trace, kind: u32, number: u64, bytes: &[u8]) -> Trace
-    ensures { result.asked ≡ (kind, (number, bytes.now)) ∷ old.now.asked }
+fn longer(old: &Trace, asked: &Asked<'_>) -> Trace
+    ensures { result.asked ≡ event asked.now ∷ old.now.asked }
 {
     Trace {}
 }
@@ -37,32 +38,32 @@ fn none() -> Trace
 
 impl Trace {
     pub fn new() -> Trace
-        ensures { events result.asked ≡ [] }
+        ensures { result.asked ≡ [] }
     {
         none()
     }
 
     pub fn appended(&self, bytes: &[u8]) -> Trace
-        ensures { events result.asked ≡ appended bytes.now ∷ events self.now.asked }
+        ensures { result.asked ≡ appended bytes.now ∷ self.now.asked }
     {
-        longer(self, 0, 0, bytes)
+        longer(self, &Asked::Appended(bytes))
     }
 
     pub fn synced(&self) -> Trace
-        ensures { events result.asked ≡ synced ∷ events self.now.asked }
+        ensures { result.asked ≡ synced ∷ self.now.asked }
     {
-        longer(self, 1, 0, &[])
+        longer(self, &Asked::Synced)
     }
 
     pub fn cut(&self, length: u64) -> Trace
-        ensures { events result.asked ≡ cut «length» ∷ events self.now.asked }
+        ensures { result.asked ≡ cut «length» ∷ self.now.asked }
     {
-        longer(self, 2, length, &[])
+        longer(self, &Asked::Cut(length))
     }
 
     pub fn got(&self, offset: u64, bytes: &[u8]) -> Trace
-        ensures { events result.asked ≡ got offset bytes.now ∷ events self.now.asked }
+        ensures { result.asked ≡ got offset bytes.now ∷ self.now.asked }
     {
-        longer(self, 3, offset, bytes)
+        longer(self, &Asked::Got(offset, bytes))
     }
 }

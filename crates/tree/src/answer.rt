@@ -1,27 +1,30 @@
 // What calls answer.
+ghost use Rattle.std.specs.Prelude.{◌≡◌};
+ghost use Rattle.tree.specs.Answers.{number_of};
 
 // Why a call is refused; the lowest number wins.
 #[derive(Clone, Copy, PartialEq, Eq, Debug)]
 pub enum Refusal {
     // No such place, or a content of 0 or more than 4,096 bytes.
-    NoSuchPlace,
+    NoSuchPlace = 1,
     // Nothing is there.
-    Nothing,
+    Nothing = 2,
     // A sealed thing doesn't open.
-    DoesNotOpen,
+    DoesNotOpen = 3,
     // The medium doesn't reach as far as the chip's number.
-    Old,
+    Old = 4,
     // A record has another form before that.
-    Damaged,
+    Damaged = 5,
     // Fewer keys were handed in than are drawn.
-    FewKeys,
+    FewKeys = 6,
     // A key would be drawn with a number past the highest.
-    NumbersSpent,
+    NumbersSpent = 7,
 }
 
-// What reading a place comes to: the length of its content, which stands at the front of the lent buffer, or why there is none.
-#[derive(Clone, Copy, PartialEq, Eq, Debug)]
-pub enum Reading {
-    Content(usize),
-    Refused(Refusal),
+impl Refusal {
+    pub fn number(self) -> u8
+        ensures { result ≡ number_of self }
+    {
+        self as u8
+    }
 }

@@ -2,5 +2,6 @@
 #![tactic(auto)]
 
 pub mod answer;
+pub mod leaf;
 pub mod node;
 pub mod numbers;

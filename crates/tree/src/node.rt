@@ -3,8 +3,8 @@
 // The two nodes that hang on one.
 #[derive(Clone, Copy, PartialEq, Eq, Debug)]
 pub enum Side {
-    Even,
-    Odd,
+    Even = 0,
+    Odd = 1,
 }
 
 #[derive(Clone, Copy, PartialEq, Eq, Debug)]

@@ -1,19 +1,12 @@
-// Parent, sibling and side by shifts and the lowest bit; places and their nodes; the numbers of refusals.
+// Parent, sibling and side by shifts and the lowest bit; places and their nodes.
 ghost use Rattle.std.specs.Prelude.{◌≡◌, ℕ, ◌+◌, ◌-◌, ◌/◌, ◌%◌, ◌^◌, ◌<◌, ◌≤◌, true, false, MatchOption};
 ghost use Rattle.tree.specs.Nodes.{sibling_of, slot_of};
-ghost use Rattle.tree.specs.Answers.{number_of};
 
-use crate::answer::Refusal;
+use crate::leaf::Leaf;
 use crate::node::{NodeId, Side};
 
 // The most levels that a tree can have.
 pub const MOST_LEVELS: u32 = 20;
-
-fn lowest_bit(n: u32) -> u32
-    ensures { result ≡ n % 2 }
-{
-    n & 1
-}
 
 impl NodeId {
     // The node that this one hangs on; 0 for the root.
@@ -46,10 +39,9 @@ impl NodeId {
     pub fn side(self) -> Side
         ensures { slot_of result ≡ self.number % 2 }
     {
-        if lowest_bit(self.number) == 0 {
-            Side::Even
-        } else {
-            Side::Odd
+        match self.number % 2 {
+            0 => Side::Even,
+            _ => Side::Odd,
         }
     }
 }
@@ -59,16 +51,13 @@ impl Side {
     pub fn slot(self) -> u8
         ensures { result ≡ slot_of self }
     {
-        match self {
-            Side::Even => 0,
-            Side::Odd => 1,
-        }
+        self as u8
     }
 }
 
 // How many places a tree of so many levels has.
 pub fn places(levels: u32) -> u32
-    requires { levels ≤ 20 }
+    requires { levels < 32 }
     ensures { result ≡ 2 ^ levels }
 {
     1 << levels
@@ -78,26 +67,5 @@ pub fn places(levels: u32) -> u32
 pub fn place_node(levels: u32, place: u32) -> Option<NodeId>
     ensures { MatchOption result ((levels ≤ 20 → place < 2 ^ levels → ⊥)) (λ n. (levels ≤ 20) × (place < 2 ^ levels) × (n.number ≡ 2 ^ levels + place)) }
 {
-    if levels > MOST_LEVELS || place >= places(levels) {
-        return None;
-    }
-    Some(NodeId {
-        number: places(levels) + place,
-    })
-}
-
-impl Refusal {
-    pub fn number(self) -> u8
-        ensures { result ≡ number_of self }
-    {
-        match self {
-            Refusal::NoSuchPlace => 1,
-            Refusal::Nothing => 2,
-            Refusal::DoesNotOpen => 3,
-            Refusal::Old => 4,
-            Refusal::Damaged => 5,
-            Refusal::FewKeys => 6,
-            Refusal::NumbersSpent => 7,
-        }
-    }
+    Some(Leaf::new(levels, place)?.node())
 }

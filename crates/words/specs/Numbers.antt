@@ -15,7 +15,3 @@ narrow (Some n) = cond (nat_lt n (2 ^ 32)) (Some n) None
 -- The number of 32 bits that a text writes.
 abbrev pub number : List ℕ → Option ℕ
 number text = narrow (onward 0 text)
-
--- A number of 32 bits with one more digit behind it.
-abbrev pub grown : (n letter : ℕ) → Option ℕ
-grown n c = cond (is_ascii_digit c) (narrow (Some (n * 10 + (c - 48)))) None

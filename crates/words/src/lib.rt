@@ -1,8 +1,8 @@
 // The words of a line, and the numbers that they write.
 #![tactic(auto)]
 
-ghost use Rattle.std.specs.Prelude.{◌≡◌, [], map, IfOk};
-ghost use Rattle.words.specs.Words.{blank, bare, onward, words_of};
+ghost use Rattle.std.specs.Prelude.{◌≡◌, map, IfOk};
+ghost use Rattle.words.specs.Words.{blank, bare, words_of};
 
 pub mod numbers;
 
@@ -25,29 +25,12 @@ fn without_return(line: &[u8]) -> &[u8]
     }
 }
 
-// What stands between blanks.
-fn between<'a>(heap: Global, line: &'a [u8]) -> Result<Vec<&'a [u8]>, AllocError>
-    ensures { IfOk result (λ words. map (λ w. w.now) words.items ≡ onward [] line.now) }
-{
-    let mut words = Vec::new(heap);
-    let mut start = 0;
-    for (i, byte) in line.iter().enumerate() {
-        if is_blank(*byte) {
-            if start < i {
-                words.push(&line[start..i])?;
-            }
-            start = i + 1;
-        }
-    }
-    if start < line.len() {
-        words.push(&line[start..])?;
-    }
-    Ok(words)
-}
-
 // The words of a line without its line feed: what stands between spaces and tabs. A carriage return at the line's end counts as one of those.
 pub fn split<'a>(heap: Global, line: &'a [u8]) -> Result<Vec<&'a [u8]>, AllocError>
     ensures { IfOk result (λ words. map (λ w. w.now) words.items ≡ words_of line.now) }
 {
-    between(heap, without_return(line))
+    without_return(line)
+        .split(|byte| is_blank(*byte))
+        .filter(|word| !word.is_empty())
+        .collect(heap)
 }

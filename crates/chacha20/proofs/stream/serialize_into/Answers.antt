@@ -10,7 +10,7 @@ loop-i-init c = (refl, c.told-out)
 
 pub loop-i-preserved : goal.loop-i-preserved
 loop-i-preserved c =
-    let m = written_more c.args.words.now c.loop-i.out c.put_u32.new.out c.loop-i.i (omega arith) (omega arith) c.put_u32.ensures c.loop-i.invariant.0 in
+    let m = written_more c.args.words.now c.loop-i.out c.put_word.new.out c.loop-i.i (omega arith) (omega arith) c.put_word.ensures c.loop-i.invariant.0 in
     (m.0, m.1 ∙ c.loop-i.invariant.1)
 
 pub returns : goal.returns

@@ -18,13 +18,13 @@ returns-then-count-gt4096 g c =
       same = refl;
       fits = tt;
       reads = λ first last t f s.
-          let i = row_long g.S.Sealing.sealed c.args.levels c.args.place c.in-Sealed.number c.in-Sealed.length c.in-Sealed.offset (rows_of c.args.index.now) c.requires.1.0 (sym c.in-Sealed.ensures) c.args.key.now.bytes (g.M.Medium.log c.args.medium.now) (g.M.Medium.log c.args.medium.now) first last t f s in
+          let i = row_long g.S.Sealing.sealed c.args.leaf.levels c.args.leaf.place c.in_ok-row.row (rows_of c.args.index.now) c.args.leaf.there (sym c.content.ensures ∙ c.in_ok-row.ensures.ok_part) c.args.key.now.bytes (g.M.Medium.log c.args.source.now.medium) (g.M.Medium.log c.args.source.now.medium) first last t f s in
           omega (arith, i.2, i.3);
     }
 
 pub returns-in_err-descend : goal.returns-in_err-descend
 returns-in_err-descend g c =
-    let p = err_from_is_err_and c.from_residual.result c.from_residual.ensures.1 in
+    let p = err_from_is_err_and c.from_residual-in_err-descend.result c.from_residual-in_err-descend.ensures.1 in
     let d = c.in_err-descend.ensures in
     rw (p.1, p.2) record { same = d.same; fits = tt; reads = d.down }
 
@@ -32,27 +32,27 @@ pub returns-in_err-open_room : goal.returns-in_err-open_room
 returns-in_err-open_room g c =
     let p = err_from_is_err_and c.from_residual-in_err-open_room.result c.from_residual-in_err-open_room.ensures.1 in
     let d = c.in_ok-descend.ensures in
-    let levels = c.args.levels in
-    let place = c.args.place in
-    let P : ℕ → Type 0 = λ n. Opens {X = Unit {0}} (g.S.Sealing.sealed c.descend.new.key.bytes (slot_nonce 0) (head 67 (n + place) c.in-Sealed.number)) c.in-Sealed.offset (c.in-Sealed.length + 16) (g.M.Medium.log c.descend.new.medium) (g.M.Medium.log c.open_room.new.medium) (Err c.in_err-open_room.field-0.0) (take c.in-Sealed.length c.open_room.new.room) in
+    let levels = c.args.leaf.levels in
+    let place = c.args.leaf.place in
+    let P : ℕ → Type 0 = λ n. Opens {X = Unit {0}} (g.S.Sealing.sealed c.descend.new.key.bytes (slot_nonce 0) (head 67 n c.in_ok-row.row.number)) c.in_ok-row.row.offset (c.in_ok-row.row.length + 16) (g.M.Medium.log c.descend.new.self.medium) (g.M.Medium.log c.open_room.new.source.medium) (Err c.in_err-open_room.field-0.0) (take c.in_ok-row.row.length c.open_room.new.room) in
     let ends =
-    content-ends g.S.Sealing.sealed levels place c.in-Sealed.number c.in-Sealed.length c.in-Sealed.offset (rows_of c.args.index.now) c.requires.1.0 (sym c.in-Sealed.ensures) g.met.S.Sealing.long g.met.S.Sealing.apart c.args.key.now.bytes (g.M.Medium.log c.args.medium.now) (g.M.Medium.log c.descend.new.medium) (g.M.Medium.log c.open_room.new.medium) c.descend.new.key.bytes c.descend.new.key.long d.same d.down
-    (Unit {0}) c.in_err-open_room.field-0.0 (take c.in-Sealed.length c.open_room.new.room) (subst P c.places.ensures c.in_err-open_room.ensures) in
+    content-ends g.S.Sealing.sealed levels place c.in_ok-row.row (rows_of c.args.index.now) c.args.leaf.there (sym c.content.ensures ∙ c.in_ok-row.ensures.ok_part) g.met.S.Sealing.long g.met.S.Sealing.apart c.args.key.now.bytes (g.M.Medium.log c.args.source.now.medium) (g.M.Medium.log c.descend.new.self.medium) (g.M.Medium.log c.open_room.new.source.medium) c.descend.new.key.bytes c.descend.new.key.long d.same d.down
+    (Unit {0}) c.in_err-open_room.field-0.0 (take c.in_ok-row.row.length c.open_room.new.room) (subst P c.node.ensures c.in_err-open_room.ensures) in
     rw (p.1, p.2) record { same = ends.0; fits = tt; reads = λ first last t f s. fails_ends c.in_err-open_room.field-0.0 (content_of (place_in levels place t)) (ends.1 first last t f s) }
 
 pub returns : goal.returns
 returns g c =
     let d = c.in_ok-descend.ensures in
-    let levels = c.args.levels in
-    let place = c.args.place in
-    let text = take c.in-Sealed.length c.open_room.new.room in
-    let room : length c.open_room.new.room ≡ 4112 = c.open_room.auto.room ∙ c.requires.1.1 in
-    let long : length text ≡ c.in-Sealed.length = length-take-le c.in-Sealed.length c.open_room.new.room (omega arith) in
-    let was : g.M.Medium.log c.open_room.new.medium ≡ got c.in-Sealed.offset (g.S.Sealing.sealed c.descend.new.key.bytes (slot_nonce 0) (head 67 (2 ^ levels + place) c.in-Sealed.number) text) ∷ g.M.Medium.log c.descend.new.medium =
-    c.in_ok-open_room.ensures ∙ ap (λ n. got c.in-Sealed.offset (g.S.Sealing.sealed c.descend.new.key.bytes (slot_nonce 0) (head 67 (n + place) c.in-Sealed.number) text) ∷ g.M.Medium.log c.descend.new.medium) c.places.ensures in
+    let levels = c.args.leaf.levels in
+    let place = c.args.leaf.place in
+    let text = take c.in_ok-row.row.length c.open_room.new.room in
+    let room : length c.open_room.new.room ≡ 4112 = c.open_room.auto.room ∙ c.requires in
+    let long : length text ≡ c.in_ok-row.row.length = length-take-le c.in_ok-row.row.length c.open_room.new.room (omega arith) in
+    let was : g.M.Medium.log c.open_room.new.source.medium ≡ got c.in_ok-row.row.offset (g.S.Sealing.sealed c.descend.new.key.bytes (slot_nonce 0) (head 67 (2 ^ levels + place) c.in_ok-row.row.number) text) ∷ g.M.Medium.log c.descend.new.self.medium =
+    c.in_ok-open_room.ensures ∙ ap (λ n. got c.in_ok-row.row.offset (g.S.Sealing.sealed c.descend.new.key.bytes (slot_nonce 0) (head 67 n c.in_ok-row.row.number) text) ∷ g.M.Medium.log c.descend.new.self.medium) c.node.ensures in
     record {
       same = ap changes was ∙ changes-got _ _ _ ∙ d.same;
       fits = omega arith;
       reads =
-          content-opened g.S.Sealing.sealed levels place c.in-Sealed.number c.in-Sealed.length c.in-Sealed.offset (rows_of c.args.index.now) c.requires.1.0 (sym c.in-Sealed.ensures) g.met.S.Sealing.long g.met.S.Sealing.apart c.args.key.now.bytes (g.M.Medium.log c.args.medium.now) (g.M.Medium.log c.descend.new.medium) (g.M.Medium.log c.open_room.new.medium) c.descend.new.key.bytes c.descend.new.key.long d.same d.down text long was;
+          content-opened g.S.Sealing.sealed levels place c.in_ok-row.row (rows_of c.args.index.now) c.args.leaf.there (sym c.content.ensures ∙ c.in_ok-row.ensures.ok_part) g.met.S.Sealing.long g.met.S.Sealing.apart c.args.key.now.bytes (g.M.Medium.log c.args.source.now.medium) (g.M.Medium.log c.descend.new.self.medium) (g.M.Medium.log c.open_room.new.source.medium) c.descend.new.key.bytes c.descend.new.key.long d.same d.down text long was;
     }

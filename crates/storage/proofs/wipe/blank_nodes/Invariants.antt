@@ -1,6 +1,6 @@
 -- So many nodes so far, none with a key.
 use Rattle.std.proofs.Common.{◌≡◌, ◌≤◌, vec_items, vec_len, vec_capacity}
-use Rattle.storage.specs.Memory.{Keyless}
+use Rattle.change.specs.Nodes.{Keyless}
 use Rattle.storage.proofs.wipe.blank_nodes.Given as goal
 
 abbrev pub invariant-loop-h : goal.invariant-loop-h

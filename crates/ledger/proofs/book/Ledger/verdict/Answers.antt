@@ -1,29 +1,24 @@
-use Rattle.std.proofs.Common.{◌≡◌, ◌<◌, ◌≤◌, Bool, true, false, List, length, get_or, vec_items, sym, ap, ◌∙◌, arith}
-use lib.ListN.{get_or-eq_default}
-use Rattle.ledger.specs.Book.{after}
-use Rattle.ledger.proofs.Keeping.{any-default}
+use Rattle.std.proofs.Common.{◌≡◌, ℕ, ◌≤◌, Bool, false, List, get_or, vec_items, Option, unwrap_or, sym, ap, ◌∙◌, arith}
+use denote.Bor.{Bor}
+use Rattle.std.specs.Option.{option_copied}
+use Rattle.std.specs.Slice.{IsItemAt}
 use Rattle.ledger.proofs.Playing.{is_open, is-shut}
 use Rattle.ledger.proofs.book.Ledger.verdict.Goals as goal
-use Rattle.ledger.proofs.book.Ledger.verdict.Goals.{else-put-len-via-then-put-len+else-index, else-put-len-via-else-put-len}
 
-pub returns-then-index : goal.returns-then-index
-returns-then-index c =
-    let self = c.args.self.now in
-    let within : c.args.put < length (vec_items self.seen) = omega (arith, self.seen.ok.0) in
-    let is : get_or (after self.levels (vec_items self.moves)).seen c.args.put false ≡ true =
-    ap (λ (x : List Bool). get_or x c.args.put false) (sym self.saw) ∙ any-default (vec_items self.seen) c.args.put false c.index.result.now within ∙ sym c.index.ensures
-    ∙ c.if-index.true in
-    is_open self.levels (vec_items self.moves) c.args.put self.placed is
+-- Whether a put was seen; one that there was not was not.
+is-seen : (seen : List Bool) (put : ℕ) (r : Option (Bor Bool)) → IsItemAt seen put r → get_or seen put false ≡ unwrap_or (option_copied r) false
+is-seen seen put r at = let same : put ≤ put = omega arith in sym (at.4 same false)
 
-pub returns-else-put-len : goal.returns-else-put-len
-returns-else-put-len c =
+pub returns-then-unwrap_or : goal.returns-then-unwrap_or
+returns-then-unwrap_or c =
     let self = c.args.self.now in
-    let unseen : get_or (vec_items self.seen) c.args.put false ≡ false =
-    elim c.else-put-len.branch [
-      | else-put-len-via-then-put-len+else-index w ↦
-          let within : c.args.put < length (vec_items self.seen) = omega (arith, self.seen.ok.0) in
-          any-default (vec_items self.seen) c.args.put false w.index.result.now within ∙ sym w.index.ensures ∙ w.if-index.false
-      | else-put-len-via-else-put-len w ↦
-          let past : length (vec_items self.seen) ≤ c.args.put = omega (arith, self.seen.ok.0) in get_or-eq_default (vec_items self.seen) false past
-    ] in
-    is-shut self.levels (vec_items self.moves) c.args.put self.placed (ap (λ (x : List Bool). get_or x c.args.put false) (sym self.saw) ∙ unseen)
+    let read = λ (xs : List Bool). get_or xs c.args.put false in
+    is_open self.levels (vec_items self.moves) c.args.put self.placed
+    (ap read (sym self.saw ∙ sym c.deref.ensures.value) ∙ is-seen _ c.args.put c.get.result c.get.ensures.lookup ∙ sym (ap (λ r. unwrap_or r false) c.copied.ensures) ∙ sym c.unwrap_or.ensures ∙ c.if-unwrap_or.true)
+
+pub returns-else-unwrap_or : goal.returns-else-unwrap_or
+returns-else-unwrap_or c =
+    let self = c.args.self.now in
+    let read = λ (xs : List Bool). get_or xs c.args.put false in
+    is-shut self.levels (vec_items self.moves) c.args.put self.placed
+    (ap read (sym self.saw ∙ sym c.deref.ensures.value) ∙ is-seen _ c.args.put c.get.result c.get.ensures.lookup ∙ sym (ap (λ r. unwrap_or r false) c.copied.ensures) ∙ sym c.unwrap_or.ensures ∙ c.if-unwrap_or.false)

@@ -1,4 +1,4 @@
-use Rattle.std.proofs.Common.{◌≡◌, ℕ, ◌-◌, List, length, take, drop, vec_items, ap, ◌∙◌, subst, arith}
+use Rattle.std.proofs.Common.{◌≡◌, ℕ, ◌-◌, List, length, take, drop, vec_items, ap, ◌∙◌, subst, arith, rules}
 use Rattle.sealing.specs.Aead.{Authentic, ciphertext}
 use Rattle.lines.specs.Tasks.{front, back}
 use Rattle.lines.proofs.Buffers.{written}
@@ -11,7 +11,7 @@ returns c =
     let nonce : List ℕ = c.args.nonce.now.0 in
     let marked : List ℕ = c.args.marked.now in
     let parts = c.in-Some.ensures.cases in
-    let told = c.in-Opened.ensures.value in
+    let told : Authentic key nonce marked c.deref_mut.result.now c.in-Some.mark.now × (c.open.new.sealed ≡ ciphertext key nonce c.deref_mut.result.now) = search (rules, c.map_err.ensures, c.open.ensures.value) in
     let same : c.deref.result.now ≡ whole = c.deref.ensures.value in
     let long : length c.in-Some.content.now ≡ length whole - 16 = omega (arith, parts.2, ap length same) in
     let text : c.deref_mut.result.now ≡ front whole = c.deref_mut.ensures.value ∙ c.truncate.ensures.items ∙ ap (λ n. take n whole) long in

@@ -5,9 +5,4 @@ use Rattle.poly1305.specs.Limbs.{number}
 
 pub returns : goal.returns
 unfolding number
-returns c =
-    let m = middle c.args.lo c.args.hi (omega arith) in
-    record {
-      carried = (simp low26 (omega arith), simp low26 (omega arith), simp low26 (omega arith), simp low26 (omega arith), omega arith);
-      value = rw m (simp low26 (omega arith));
-    }
+returns c = rw (middle c.args.lo c.args.hi (omega arith)) (simp low26 (omega arith))

@@ -4,4 +4,4 @@ use Rattle.rehearsal.proofs.readable.WrittenDisplay.fmt.Goals as goal
 
 pub loop-record-smaller : goal.loop-record-smaller
 loop-record-smaller g c =
-    subst (Shorter c.loop-record.rest.now) (sym c.in-One.ensures) (shorter _ c.loop-record.rest.now)
+    subst (Shorter c.loop-record.rest.now) (sym c.in-Ok.ensures) (shorter _ c.loop-record.rest.now)

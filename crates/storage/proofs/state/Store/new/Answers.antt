@@ -12,8 +12,8 @@ returns g c = (
   refl,
   refl,
   λ first e h.
-      let x = empty_shows g.S.Sealing.sealed c.args.levels (rows_of c.in-Ok.index) c.in-Ok.ensures.0 in
-      let P : List ℕ → Type 0 = λ b. Shows g.S.Sealing.sealed c.args.levels b (rows_of c.in-Ok.index) bare in
+      let x = empty_shows g.S.Sealing.sealed c.args.levels (rows_of c.in_ok-index.index) c.in_ok-index.ensures.0 in
+      let P : List ℕ → Type 0 = λ b. Shows g.S.Sealing.sealed c.args.levels b (rows_of c.in_ok-index.index) bare in
       let Q : ℕ → Type 0 = λ n. Counts n bare in
       record { shows = subst P (sym e) x.0; counts = subst Q (sym (ap (λ (k : Numbered). k.number) h)) x.1; holds = h; ends = sym (ap length e) },
 )
