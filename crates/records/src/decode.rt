@@ -1,7 +1,7 @@
 // Decoding: what stands at the front of a string of bytes.
 ghost use Rattle.std.specs.Prelude.{◌≡◌, ◌+◌, ◌^◌, ◌<◌, ◌≤◌, length, MatchOption};
 ghost use Rattle.records.specs.Decode.{number4, is_place, is_number, key_at, content_at, out_at};
-ghost use Rattle.records.specs.Values.{decoded_of, decoded_up_to20, is_key, is_out, is_content};
+ghost use Rattle.records.specs.Values.{Shortens, decoded_of, decoded_up_to20, is_key, is_out, is_content};
 
 use crate::record::{
     CONTENT, CONTENT_FRONT, Decoded, HEADER_BYTES, HIGHEST, KEY, KEY_BYTES, KEY_FRONT,
@@ -72,7 +72,8 @@ impl Levels {
 
     // A place that was taken out.
     fn out(self, bytes: &[u8]) -> Decoded<'_>
-        ensures { decoded_of result ≡ out_at self.count bytes.now }
+        ensures value { decoded_of result ≡ out_at self.count bytes.now }
+        ensures shorter { Shortens bytes.now result }
     {
         let (_, rest) = bytes.split_at_checked(HEADER_BYTES).ok_or(Undecoded::Ends)?;
         let node = four(bytes, 1);
@@ -85,7 +86,8 @@ impl Levels {
 
     // The key of a node.
     fn key(self, bytes: &[u8]) -> Decoded<'_>
-        ensures { decoded_of result ≡ key_at self.count bytes.now }
+        ensures value { decoded_of result ≡ key_at self.count bytes.now }
+        ensures shorter { Shortens bytes.now result }
     {
         let (whole, rest) = bytes.split_at_checked(KEY_BYTES).ok_or(Undecoded::Ends)?;
         let (_, sealed) = whole.split_at(KEY_FRONT);
@@ -107,7 +109,8 @@ impl Levels {
     // The content of a place.
     #[tactic(auto, unfolding(crate::specs::Decode::number2))]
     fn content(self, bytes: &[u8]) -> Decoded<'_>
-        ensures { decoded_of result ≡ content_at self.count bytes.now }
+        ensures value { decoded_of result ≡ content_at self.count bytes.now }
+        ensures shorter { Shortens bytes.now result }
     {
         let (_, after) = bytes
             .split_at_checked(CONTENT_FRONT)
@@ -133,7 +136,8 @@ impl Levels {
 // The record at the front of `bytes`, and the rest. Of a tree of more than 20 levels there are no records.
 #[tactic(auto, unfolding(crate::specs::Decode::decoded))]
 pub fn decode(levels: u32, bytes: &[u8]) -> Decoded<'_>
-    ensures { decoded_of result ≡ decoded_up_to20 levels bytes.now }
+    ensures value { decoded_of result ≡ decoded_up_to20 levels bytes.now }
+    ensures shorter { Shortens bytes.now result }
 {
     let levels = Levels::new(levels).ok_or(Undecoded::Other)?;
     match bytes {

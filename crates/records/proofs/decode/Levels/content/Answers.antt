@@ -11,9 +11,9 @@ content_is : (levels n m k : ℕ) (bs sealed rest : List ℕ) → number4 bs 1 �
     → sealed ≡ take (k + 16) (drop 11 bs) → rest ≡ drop (27 + k) bs → one (content n m sealed) rest ≡ content_at levels bs
 content_is levels n m k bs sealed rest en em ek good l h s r = grind (arith, nat_tests)
 
-pub returns : goal.returns
+pub returns-clause-value : goal.returns-clause-value
 unfolding number2
-returns c =
+returns-clause-value c =
     let bs = c.args.bytes.now in
     let k = c.from_be_bytes-count.result in
     let front = rw c.in_ok-after.ensures.ok_part at c.split_at_checked.ensures.cases in
