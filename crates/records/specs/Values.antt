@@ -1,5 +1,5 @@
 -- What the values of the code stand for.
-use Rattle.std.specs.Prelude.{◌≡◌, ℕ, ◌+◌, ◌^◌, Bool, cond, ◌&&◌, List, ◌++◌, is_ok, if◌then◌else◌, Ok, Err, Result, nat_le, nat_lt}
+use Rattle.std.specs.Prelude.{◌≡◌, ℕ, ◌+◌, ◌^◌, ◌<◌, Bool, cond, ◌&&◌, List, ◌++◌, length, IfOk, is_ok, if◌then◌else◌, Ok, Err, Result, nat_le, nat_lt}
 use Rattle.std.specs.Borrow.{Bor}
 use Rattle.records.specs.declared.«record».Record.{Record as Rec}
 use Rattle.records.specs.declared.«record».Record.TheVariants.{Key, Content, Out}
@@ -17,6 +17,10 @@ abbrev pub decoded_of : Result (Rec × Bor (List ℕ)) Undecoded → Decoded
 decoded_of (Ok found) = one (record_of found.0) found.1.now
 decoded_of (Err Ends) = ends
 decoded_of (Err Other) = other
+
+-- What is left after a record is shorter than what it stands in front of.
+abbrev pub Shortens : List ℕ → Result (Rec × Bor (List ℕ)) Undecoded → Type 0
+Shortens bytes result = IfOk result (λ found. length found.1.now < length bytes)
 
 -- Trees have at most 20 levels: for more, no bytes are a record.
 abbrev pub decoded_up_to20 : (levels : ℕ) → List ℕ → Decoded

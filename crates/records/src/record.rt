@@ -19,7 +19,7 @@ pub const KEY_FRONT: usize = 13;
 
 pub const CONTENT_FRONT: usize = 11;
 
-pub const KEY_BYTES: usize = 61;
+pub const KEY_BYTES: usize = KEY_FRONT + SEALED_KEY;
 
 pub const LONGEST_CONTENT: u16 = 4096;
 

@@ -13,15 +13,31 @@ fn bytes(front: &[u8; 13]) -> [u8; 4200] {
 }
 
 #[test]
-fn decodes_a_key(rt: HostRuntime) {
-    let bytes = bytes(KEY);
-    let record = Record::Key {
+fn decodes(rt: HostRuntime) {
+    let key = bytes(KEY);
+    let key_record = Record::Key {
         node: 2,
         number: 1,
         under: 2,
-        sealed: &bytes[13..61],
+        sealed: &key[13..61],
     };
-    assert_eq!(rt; decode(2, &bytes[..63]), Ok((record, &bytes[61..63])));
+    assert_eq!(rt; decode(2, &key[..63]), Ok((key_record, &key[61..63])));
+    let content = bytes(CONTENT);
+    let content_record = Record::Content {
+        node: 4,
+        number: 1,
+        sealed: &content[11..32],
+    };
+    assert_eq!(rt;
+        decode(2, &content[..34]),
+        Ok((content_record, &content[32..34]))
+    );
+    let out = bytes(OUT);
+    let out_record = Record::Out {
+        node: 7,
+        next: 4_294_967_294,
+    };
+    assert_eq!(rt; decode(2, &out[..11]), Ok((out_record, &out[9..11])));
 }
 
 #[test]
@@ -29,27 +45,6 @@ fn refuses_too_many_levels(rt: HostRuntime) {
     let bytes = bytes(KEY);
     let (front, _) = bytes.split_at(63);
     assert_eq!(rt; decode(21, front), Err(Undecoded::Other));
-}
-
-#[test]
-fn decodes_a_content(rt: HostRuntime) {
-    let bytes = bytes(CONTENT);
-    let record = Record::Content {
-        node: 4,
-        number: 1,
-        sealed: &bytes[11..32],
-    };
-    assert_eq!(rt; decode(2, &bytes[..34]), Ok((record, &bytes[32..34])));
-}
-
-#[test]
-fn decodes_an_out(rt: HostRuntime) {
-    let bytes = bytes(OUT);
-    let record = Record::Out {
-        node: 7,
-        next: 4_294_967_294,
-    };
-    assert_eq!(rt; decode(2, &bytes[..11]), Ok((record, &bytes[9..11])));
 }
 
 #[test]

@@ -1,4 +1,3 @@
 pub mod Drawing
 pub mod Climbing
-pub mod Shorter
 pub mod Recording
