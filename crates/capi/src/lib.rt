@@ -28,11 +28,10 @@ pub extern "C" fn basilwrench_seal(
     let mut secret = Key::take(&mut bytes);
     let sealed = seal(&secret, &Nonce(*nonce), marked, text, &mut work);
     secret.wipe();
-    let Ok(made) = sealed else {
+    let Ok(Mark(made)) = sealed else {
         return false;
     };
-    let made_bytes = made.0;
-    *mark = made_bytes;
+    *mark = made;
     true
 }
 

@@ -43,6 +43,7 @@ impl Limbs {
         l4: 0,
     };
 
+    #[tactic(auto, unfolding(crate::specs::Poly1305::prime, crate::specs::Limbs::number))]
     pub(crate) fn zero() -> Limbs
         ensures { value result % prime ≡ 0 }
     {
@@ -82,6 +83,7 @@ impl Limbs {
         }
     }
 
+    #[tactic(auto, unfolding(crate::specs::Limbs::number))]
     fn plus(self, other: Limbs) -> Sum
         ensures { total result ≡ value self + value other }
     {
