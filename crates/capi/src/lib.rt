@@ -28,10 +28,10 @@ pub extern "C" fn basilwrench_seal(
     let mut secret = Key::take(&mut bytes);
     let sealed = seal(&secret, &Nonce(*nonce), marked, text, &mut work);
     secret.wipe();
-    let Ok(Mark(made)) = sealed else {
+    let Ok(made) = sealed else {
         return false;
     };
-    *mark = made;
+    mark.copy_from_slice(&made.0);
     true
 }
 
