@@ -139,8 +139,7 @@ impl Stream {
     {
         self.input = initial_state(key, counter, nonce);
         self.make_block();
-        let made = self.block;
-        *out = made;
+        out.copy_from_slice(&self.block);
         self.wipe();
     }
 

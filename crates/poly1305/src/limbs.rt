@@ -10,7 +10,7 @@ const LIMB_BITS: u32 = 26;
 
 const LIMB_MASK: u64 = 0x3ff_ffff;
 
-// 130 bits as five limbs of 26, each with room to carry.
+// 130 bits as five limbs of 26, each with room to carry. They are fields and no array, since each has its own bound and its own part in the products.
 #[derive(Clone, Copy)]
 pub struct Limbs {
     pub(crate) l0: u64,
