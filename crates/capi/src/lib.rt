@@ -31,8 +31,7 @@ pub extern "C" fn basilwrench_seal(
     let Ok(made) = sealed else {
         return false;
     };
-    let made_bytes = made.0;
-    *mark = made_bytes;
+    mark.copy_from_slice(&made.0);
     true
 }
 

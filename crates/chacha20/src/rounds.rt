@@ -37,6 +37,7 @@ fn double_round(s: &mut [u32; 16])
 }
 
 // The twenty rounds.
+#[tactic(auto, unfolding(crate::specs::ChaCha20::double_rounds))]
 pub fn twenty_rounds(s: &mut [u32; 16])
     ensures { s.new ≡ double_rounds 10 s.old }
 {
@@ -49,6 +50,7 @@ pub fn twenty_rounds(s: &mut [u32; 16])
 fn add_words(s: &mut [u32; 16], input: &[u32; 16])
     ensures { s.new ≡ zip2 plus s.old input.now }
 {
+    // By index: of a state that is written through a `zip` a proof knows the length alone.
     for (i, word) in s.iter_mut().enumerate() {
         *word = word.wrapping_add(input[i]);
     }

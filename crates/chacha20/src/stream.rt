@@ -31,7 +31,8 @@ pub struct Stream {
     block: [u8; 64],
 }
 
-// The state that a block begins from.
+// The state that a block begins from, word by word as the standard draws it.
+#[tactic(auto, unfolding(crate::specs::ChaCha20::initial, crate::specs::ChaCha20::word))]
 fn initial_state(key: &[u8; 32], counter: u32, nonce: &[u8; 12]) -> [u32; 16]
     ensures { result ≡ initial key.now counter nonce.now }
 {
@@ -69,6 +70,7 @@ fn xor_block(part: &mut [u8], block: &[u8; 64])
     requires { length part.old ≤ 64 }
     ensures { part.new ≡ zip2 bit_xor part.old block.now }
 {
+    // By index: of a part that is written through a `zip` a proof knows the length alone.
     for (i, byte) in part.iter_mut().enumerate() {
         *byte ^= block[i];
     }
@@ -87,6 +89,7 @@ impl Stream {
     }
 
     // The block of the state that it begins from.
+    #[tactic(auto, unfolding(crate::specs::ChaCha20::output))]
     fn make_block(&mut self)
         ensures block { self.new.block ≡ output self.old.input }
         ensures input { self.new.input ≡ self.old.input }
@@ -120,6 +123,7 @@ impl Stream {
     {
         self.input = initial_state(key, counter, nonce);
         let len = text.len();
+        // By index: of a text that is written through `chunks_mut` a proof knows the length alone.
         for i in 0..len.div_ceil(BLOCK) {
             self.next_block();
             let at = BLOCK * i;
@@ -135,8 +139,7 @@ impl Stream {
     {
         self.input = initial_state(key, counter, nonce);
         self.make_block();
-        let made = self.block;
-        *out = made;
+        out.copy_from_slice(&self.block);
         self.wipe();
     }
 

@@ -37,6 +37,7 @@ impl Sealing for Transparent {
 
     ghost apart = { λ key nonce marked one other h e. transparent-apart key nonce marked one other e };
 
+    #[tactic(auto, unfolding(crate::specs::Sealed::transparent))]
     fn seal(&mut self, key: &Key, nonce: &Nonce, marked: &[u8], part: &mut [u8]) {
         let at = part.len() - 16;
         put_number(part, at, key.as_bytes());

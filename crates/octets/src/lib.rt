@@ -79,3 +79,20 @@ pub fn wipe(buffer: &mut [u8])
 {
     buffer.fill(0);
 }
+
+#[cfg(test)]
+mod tests {
+    use super::*;
+
+    // Words of RFC 8439, sections 2.3.2 and 2.8.2: of a key, and the length of a text.
+    #[test]
+    fn words(rt: HostRuntime) {
+        let key = [0, 1, 2, 3, 4, 5, 6, 7];
+        assert_eq!(rt; word_at::<u32>(&key, 4), 0x0706_0504);
+        assert_eq!(rt; word_at::<u64>(&key, 0), 0x0706_0504_0302_0100);
+        let mut out = [0; 12];
+        put_word(&mut out, 0, 0x0706_0504u32);
+        put_word(&mut out, 4, 114u64);
+        assert_eq!(rt; out, [4, 5, 6, 7, 114, 0, 0, 0, 0, 0, 0, 0]);
+    }
+}

@@ -1,7 +1,7 @@
 -- Blocks as words, and the last block of a part.
-use Rattle.std.proofs.Common.{◌≡◌, ℕ, zero, suc, ◌+◌, ◌-◌, ◌*◌, ◌/◌, ◌%◌, ◌^◌, ◌<◌, ◌≤◌, List, [], ◌∷◌, ◌++◌, length, get_or, take, drop, replicate, sym, refl, ap, ◌∙◌, arith, ◌≢◌, ◌==◌, false, inl, inr}
+use Rattle.std.proofs.Common.{◌≡◌, ℕ, zero, suc, ◌+◌, ◌-◌, ◌*◌, ◌/◌, ◌%◌, ◌^◌, ◌<◌, ◌≤◌, List, [], ◌∷◌, ◌++◌, length, get_or, take, drop, set, replicate, sym, refl, ap, ◌∙◌, arith, ◌≢◌, ◌==◌, false, inl, inr}
 use native.Mathlib.Nat.{div-div-eq-div-mul}
-use Rattle.std.proofs.lemmas.List.{length-append, length-take-le, length-drop, length-replicate, take-append-drop, take-take, drop-take, drop-drop, take_all, drop-append-le, append_assoc, append-nil}
+use Rattle.std.proofs.lemmas.List.{length-append, length-take-le, length-drop, length-replicate, take-append-drop, take-take, drop-take, drop-drop, take_all, drop-append-le, append_assoc, append-nil, set-append_right, drop-replicate}
 use Rattle.octets.specs.Endian.{le, le_bytes}
 use Rattle.octets.proofs.Laws.{le-append, le-one, le_zeros, le_bytes-mod}
 use Rattle.poly1305.specs.Poly1305.{prime, absorb, absorb_all, blocks, padded}
@@ -59,6 +59,14 @@ one_more r a h x i k m block n o e f g =
     let c : block ≡ take 16 (drop (16 * i) m) = e ∙ chunk_at k i m o in
     let l : length block ≡ 16 = ap length c ∙ length-take-le 16 (drop (16 * i) m) (simp length-drop (omega arith)) in
     g ∙ reduced r h (absorb_all r a i m) _ f ∙ added r (absorb_all r a i m) _ block (marked block l) ∙ ap (absorb r (absorb_all r a i m)) c ∙ sym (absorb_all_more r a i m)
+
+-- A block filled up after the bytes xs: the byte `end` at k, where they stop.
+pub filled : (ys xs : List ℕ) (d at k end : ℕ) → ys ≡ xs → length xs ≡ k → k < 16 → d ≡ k → at ≡ k
+    → set (ys ++ drop d (replicate 16 0)) at end ≡ xs ++ end ∷ replicate (15 - k) 0
+filled ys xs d at k end e l h f g =
+    let j : k - k ≡ 0 = omega arith in
+    let s : 16 - k ≡ suc (15 - k) = omega arith in
+    rw (e, f, g) (set-append_right xs (drop k (replicate 16 0)) k k end l (omega arith) ∙ rw (drop-replicate {X = ℕ} k 16 0, j, s))
 
 -- The number of a block that is filled up, with or without the mark after it.
 filled_number : (t : List ℕ) (b k : ℕ) → le (t ++ b ∷ replicate k 0) ≡ le (t ++ b ∷ [])

@@ -10,6 +10,7 @@ number l0 l1 l2 l3 l4 = l0 + 2 ^ 26 * l1 + 2 ^ 52 * l2 + 2 ^ 78 * l3 + 2 ^ 104 *
 abbrev pub value : Limbs → ℕ
 value x = number x.l0 x.l1 x.l2 x.l3 x.l4
 
+-- The number that a sum stands for.
 abbrev pub total : Sum → ℕ
 total x = number x.l0 x.l1 x.l2 x.l3 x.l4
 

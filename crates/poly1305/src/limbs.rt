@@ -10,7 +10,7 @@ const LIMB_BITS: u32 = 26;
 
 const LIMB_MASK: u64 = 0x3ff_ffff;
 
-// 130 bits as five limbs of 26, each with room to carry.
+// 130 bits as five limbs of 26, each with room to carry. They are fields and no array, since each has its own bound and its own part in the products.
 #[derive(Clone, Copy)]
 pub struct Limbs {
     pub(crate) l0: u64,
@@ -43,6 +43,7 @@ impl Limbs {
         l4: 0,
     };
 
+    #[tactic(auto, unfolding(crate::specs::Poly1305::prime, crate::specs::Limbs::number))]
     pub(crate) fn zero() -> Limbs
         ensures { value result % prime ≡ 0 }
     {
@@ -82,6 +83,7 @@ impl Limbs {
         }
     }
 
+    #[tactic(auto, unfolding(crate::specs::Limbs::number))]
     fn plus(self, other: Limbs) -> Sum
         ensures { total result ≡ value self + value other }
     {

@@ -30,9 +30,9 @@ impl Key {
         ensures value { result.bytes ≡ buffer.old }
         ensures wiped { buffer.new ≡ replicate 32 0 }
     {
-        let bytes = *buffer;
-        *buffer = [0; 32];
-        Key { bytes }
+        let mut key = Key::blank();
+        key.fill(buffer);
+        key
     }
 
     pub fn as_bytes(&self) -> &[u8; 32]
@@ -62,6 +62,6 @@ impl Key {
         ensures wiped { buffer.new ≡ replicate 32 0 }
     {
         self.bytes = *buffer;
-        *buffer = [0u8; 32];
+        *buffer = [0; 32];
     }
 }

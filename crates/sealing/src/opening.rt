@@ -4,7 +4,7 @@
 #[derive(Clone, Copy, PartialEq, Eq, Debug)]
 pub struct Nonce(pub [u8; 12]);
 
-// The mark of a sealed text.
+// The mark of a sealed text. It has no `==`: only `aead::open` compares marks, and it reads every byte.
 #[derive(Clone, Copy)]
 pub struct Mark(pub [u8; 16]);
 

@@ -1,8 +1,7 @@
 use Rattle.std.proofs.Common.{◌≡◌, ℕ, ◌+◌, ◌-◌, ◌*◌, ◌%◌, ◌^◌, ◌≤◌, min, ◌⊎◌, length, ap, ◌∙◌, inl, inr, arith}
-use Rattle.std.proofs.lemmas.List.{take_all, drop_all, append-nil}
 use Rattle.std.proofs.lemmas.Bool.{cases_lt}
 use Rattle.chacha20.proofs.Laws.{encrypt_more, encrypt_none, advance}
-use Rattle.chacha20.specs.ChaCha20.{initial, encrypt, output}
+use Rattle.chacha20.specs.ChaCha20.{initial, output}
 use Rattle.chacha20.specs.Stream.{advanced}
 use Rattle.chacha20.proofs.stream.Stream.apply.Goals as goal
 
@@ -29,9 +28,3 @@ loop-i-preserved c =
           (rw b at c.xor_block.ensures),
       c.next_block.ensures.input ∙ ap advanced c.loop-i.invariant.1 ∙ advance c.args.key.now ((c.args.counter + c.loop-i.i) % 2 ^ 32) c.args.nonce.now ∙ ap (λ n. initial c.args.key.now n c.args.nonce.now) next,
     )
-
-pub returns : goal.returns
-returns c =
-    let t = take_all (64 * c.loop-i.i) c.args.text.now (omega arith) in
-    let d = drop_all (64 * c.loop-i.i) c.args.text.now (omega arith) in
-    c.loop-i.invariant.0 ∙ rw (t, d) (append-nil (encrypt c.args.key.now c.args.counter c.args.nonce.now c.args.text.now))

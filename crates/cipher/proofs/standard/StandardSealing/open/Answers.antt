@@ -4,15 +4,10 @@ use Rattle.sealing.specs.Aead.{longest}
 use Rattle.cipher.specs.Parts.{opened-part}
 use Rattle.cipher.proofs.standard.StandardSealing.open.Goals as goal
 
-pub returns : goal.returns
+pub returns-clause-value : goal.returns-clause-value
 unfolding longest
-returns c =
-    let part = c.args.part.now in
+returns-clause-value c =
     let n : length c.args.part.now - 16 - 0 ≡ length c.args.part.now - 16 = omega arith in
     let t = length-take-le (length c.args.part.now - 16 - 0) c.args.part.now (omega arith) in
-    record {
-      value =
-          opened-part c.args.key.now.bytes c.args.nonce.now.0 c.args.marked.now c.args.part.now (length c.args.part.now - 16 - 0) (omega arith) (omega arith)
-          c.open.result c.mark_at-mark.result.0 c.open.new.sealed (rw n c.mark_at-mark.ensures) (omega arith) c.open.ensures.value;
-      clear = c.open.ensures.wiped;
-    }
+    opened-part c.args.key.now.bytes c.args.nonce.now.0 c.args.marked.now c.args.part.now (length c.args.part.now - 16 - 0) (omega arith) (omega arith)
+    c.open.result c.mark_at-mark.result.0 c.open.new.sealed (rw n c.mark_at-mark.ensures) (omega arith) c.open.ensures.value

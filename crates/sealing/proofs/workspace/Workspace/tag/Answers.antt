@@ -4,19 +4,9 @@ use Rattle.poly1305.specs.State.{multiplier}
 use Rattle.sealing.specs.Work.{absorbed_text}
 use Rattle.sealing.proofs.workspace.Workspace.tag.Goals as goal
 
-pub returns : goal.returns
-returns c =
-    record {
-      tag =
-          c.finish.ensures.tag
-          ∙ tag_parts c.args.key.now c.args.nonce.now c.args.marked.now c.args.sealed.now _ _ _ c.begin_mark.ensures.multiplier
-          (c.absorb_text.ensures.accumulator ∙ ap (λ a. absorbed_text (multiplier c.begin_mark.new.self.mark) a c.args.marked.now c.args.sealed.now) c.begin_mark.ensures.accumulator)
-          (c.absorb_text.ensures.added ∙ c.begin_mark.ensures.added);
-      wiped =
-          record {
-            stream_zero = c.absorb_text.ensures.stream ∙ c.begin_mark.ensures.stream;
-            mark_zero = c.finish.ensures.wiped;
-            block_zero = c.absorb_text.ensures.block ∙ c.begin_mark.ensures.block;
-            once_zero = c.absorb_text.ensures.once ∙ c.begin_mark.ensures.once;
-          };
-    }
+pub returns-clause-tag : goal.returns-clause-tag
+returns-clause-tag c =
+    c.finish.ensures.tag
+    ∙ tag_parts c.args.key.now c.args.nonce.now c.args.marked.now c.args.sealed.now _ _ _ c.begin_mark.ensures.multiplier
+    (c.absorb_text.ensures.accumulator ∙ ap (λ a. absorbed_text (multiplier c.begin_mark.new.self.mark) a c.args.marked.now c.args.sealed.now) c.begin_mark.ensures.accumulator)
+    (c.absorb_text.ensures.added ∙ c.begin_mark.ensures.added)
