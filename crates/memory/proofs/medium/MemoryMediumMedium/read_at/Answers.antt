@@ -1,11 +1,12 @@
 use Rattle.std.proofs.Common.{◌≡◌, ℕ, ◌+◌, ◌-◌, List, length, take, drop, vec_items, sym, ap, ◌∙◌, arith, rules}
+use Rattle.memory.specs.Supplies.{is_on}
 use Rattle.memory.proofs.Steps.{gets}
 use Rattle.memory.proofs.medium.MemoryMediumMedium.read_at.Goals as goal
 
 pub invariant_of-self : goal.invariant_of-self
 invariant_of-self c =
     let s = c.args.self.now in
-    let kept = gets s.power.on s.lasting c.args.offset (vec_items s.bytes) c.copy_from_slice.new.self s.trace.asked c.got-asked.result.asked (s.faithful, (s.whole, (s.left, tt))) c.got-asked.ensures
+    let kept = gets (is_on s.power) s.lasting c.args.offset (vec_items s.bytes) c.copy_from_slice.new.self s.trace.asked c.got.result.asked (s.faithful, (s.whole, (s.left, tt))) c.got.ensures
     (search rules)
     (let z : length c.copy_from_slice.new.self ≡ c.args.offset + length c.args.buffer.now - c.args.offset = omega (arith, c.copy_from_slice.ensures.len) in
     ap (λ (k : ℕ). take k (drop c.args.offset (vec_items s.bytes))) z
