@@ -82,13 +82,10 @@ impl Medium for MemoryMedium {
     ghost log = { λ m. m.trace.asked };
 
     fn read_at(&mut self, offset: u64, buffer: &mut [u8]) -> Result<(), Fault> {
-        let start = offset as usize;
-        let have = self.bytes.len();
-        if !self.power.is_on() || have < start || have - start < buffer.len() {
-            return Err(Fault);
-        }
-        let end = start + buffer.len();
-        buffer.copy_from_slice(&self.bytes[start..end]);
+        self.power.check()?;
+        let rest = self.bytes.get(offset as usize..).ok_or(Fault)?;
+        let bytes = rest.get(..buffer.len()).ok_or(Fault)?;
+        buffer.copy_from_slice(bytes);
         self.trace = self.trace.got(offset, buffer);
         Ok(())
     }
