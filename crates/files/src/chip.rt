@@ -67,8 +67,7 @@ impl Chip for FileChip {
     }
 
     fn replace<M: Medium>(&mut self, key: &Key, number: u32, medium: &M) -> Result<(), Fault> {
-        let ledger = self.ledger.given(number, key, medium);
-        self.ledger = ledger;
+        self.ledger = self.ledger.given(number, key, medium);
         let path = self.path.as_str();
         let beside = self.beside.as_str();
         self.image.save(&self.rt, path, beside, number, key)?;

@@ -66,8 +66,7 @@ impl Chip for MemoryChip {
         ensures gives { Gives (λ c. held c.slot) (λ c. c.ledger.keys) self.old (given_now number key.now.bytes (M.log medium.now)) result self.new }
         ensures told { Told self.old.failing (held self.old.slot) (record { number = number; bytes = key.now.bytes }) result (held self.new.slot) }
     {
-        let ledger = self.ledger.given(number, key, medium);
-        self.ledger = ledger;
+        self.ledger = self.ledger.given(number, key, medium);
         match self.failing.take() {
             None => {
                 self.slot.set(key, number);

@@ -2,6 +2,7 @@
 ghost use Rattle.std.specs.Prelude.{◌≡◌, ℕ, ◌+◌, ◌≤◌, true, false, List, [], ◌∷◌, ◌++◌, length, take, Some, None};
 ghost use Rattle.devices.specs.Events.{appended, synced, held, Faithful, Left};
 ghost use Rattle.memory.specs.Stops.{is_faithful, Whole, Lasting};
+ghost use Rattle.memory.specs.Supplies.{is_on, stopping};
 
 use crate::power::{Power, Stop, Supply};
 use devices::fault::Fault;
@@ -16,7 +17,7 @@ pub struct MemoryMedium {
     power: Power,
     trace: Trace,
     ghost faithful: { is_faithful trace.asked ≡ true },
-    ghost whole: { Whole power.on bytes.items trace.asked },
+    ghost whole: { Whole (is_on power) bytes.items trace.asked },
     ghost left: { Lasting lasting bytes.items trace.asked },
 }
 
@@ -25,41 +26,38 @@ impl MemoryMedium {
     pub fn new(bytes: Vec<u8>) -> MemoryMedium
         ensures log { result.trace.asked ≡ synced ∷ (appended bytes.items ∷ []) }
         ensures value { result.bytes.items ≡ bytes.items }
-        ensures power { result.power ≡ record { on = true; stop = None } }
+        ensures power { result.power ≡ Power.On None }
     {
         let lasting = bytes.len();
         let trace = Trace::new().appended(&bytes).synced();
         MemoryMedium {
             bytes,
             lasting,
-            power: Power {
-                on: true,
-                stop: None,
-            },
+            power: Power::On(None),
             trace,
         }
     }
 
     // The power goes off at an operation that changes the medium: the next one after so many that are still done. An append then leaves so many of its first bytes; a sync and a cut are not done. All that is asked later fails.
     pub fn fail_after(&mut self, done: u64, kept: usize)
-        ensures stop { self.new.power ≡ record { on = self.old.power.on; stop = Some (record { after = done; kept = kept }) } }
+        ensures stop { self.new.power ≡ stopping (record { after = done; kept = kept }) self.old.power }
         ensures bytes { self.new.bytes ≡ self.old.bytes }
         ensures trace { self.new.trace ≡ self.old.trace }
     {
-        self.power.stop = Some(Stop { after: done, kept });
+        self.power.stop(Stop { after: done, kept });
     }
 
     // Whether nothing failed yet.
     pub fn is_on(&self) -> bool
-        ensures { result ≡ self.now.power.on }
+        ensures { result ≡ is_on self.now.power }
     {
-        self.power.on
+        self.power.is_on()
     }
 
     // What is there now: all that was asked, while the power is on. Whatever was read is what was there.
     pub fn bytes(&self) -> &[u8]
         ensures value { result.now ≡ self.now.bytes.items }
-        ensures whole { self.now.power.on ≡ true → held [] self.now.trace.asked ≡ result.now }
+        ensures whole { is_on self.now.power ≡ true → held [] self.now.trace.asked ≡ result.now }
         ensures faithful { Faithful [] self.now.trace.asked }
     {
         self.bytes.as_slice()
@@ -84,24 +82,18 @@ impl Medium for MemoryMedium {
     ghost log = { λ m. m.trace.asked };
 
     fn read_at(&mut self, offset: u64, buffer: &mut [u8]) -> Result<(), Fault> {
-        let start = offset as usize;
-        let have = self.bytes.len();
-        if !self.power.on || have < start || have - start < buffer.len() {
-            return Err(Fault);
-        }
-        let end = start + buffer.len();
-        buffer.copy_from_slice(&self.bytes[start..end]);
-        let asked = self.trace.got(offset, buffer);
-        self.trace = asked;
+        self.power.check()?;
+        let rest = self.bytes.get(offset as usize..).ok_or(Fault)?;
+        let bytes = rest.get(..buffer.len()).ok_or(Fault)?;
+        buffer.copy_from_slice(bytes);
+        self.trace = self.trace.got(offset, buffer);
         Ok(())
     }
 
     fn append(&mut self, bytes: &[u8]) -> Result<(), Fault> {
-        let asked = self.trace.appended(bytes);
-        self.trace = asked;
+        self.trace = self.trace.appended(bytes);
         let count = self.power.spend().bytes(bytes.len());
-        let added = self.bytes.extend_from_slice(&bytes[0..count]);
-        if added.is_err() {
+        if self.bytes.extend_from_slice(&bytes[0..count]).is_err() {
             self.power.fail();
         }
         self.power.check()
@@ -111,16 +103,13 @@ impl Medium for MemoryMedium {
         let Supply::Full = self.power.spend() else {
             return Err(Fault);
         };
-        let all = self.bytes.len();
-        self.lasting = all;
-        let asked = self.trace.synced();
-        self.trace = asked;
+        self.lasting = self.bytes.len();
+        self.trace = self.trace.synced();
         Ok(())
     }
 
     fn cut(&mut self, length: u64) -> Result<(), Fault> {
-        let asked = self.trace.cut(length);
-        self.trace = asked;
+        self.trace = self.trace.cut(length);
         let Supply::Full = self.power.spend() else {
             return Err(Fault);
         };

@@ -1,6 +1,6 @@
 // The power of a medium in memory, which goes off at a stop.
-ghost use Rattle.std.specs.Prelude.{◌≡◌, false, is_ok};
-ghost use Rattle.memory.specs.Supplies.{Supplies, written};
+ghost use Rattle.std.specs.Prelude.{◌≡◌, is_ok};
+ghost use Rattle.memory.specs.Supplies.{Supplies, is_on, stopping, written};
 
 use devices::fault::Fault;
 
@@ -12,9 +12,10 @@ pub(crate) struct Stop {
 }
 
 #[derive(Clone, Copy)]
-pub(crate) struct Power {
-    pub(crate) on: bool,
-    pub(crate) stop: Option<Stop>,
+pub(crate) enum Power {
+    // Until the stop that is to come, if there is one.
+    On(Option<Stop>),
+    Off,
 }
 
 // What there is for one operation: it is done, in part, or not at all.
@@ -39,36 +40,52 @@ impl Supply {
 }
 
 impl Power {
+    pub(crate) fn is_on(self) -> bool
+        ensures { result ≡ is_on self }
+    {
+        match self {
+            Power::On(_) => true,
+            Power::Off => false,
+        }
+    }
+
+    // Another stop is to come, where it is on.
+    pub(crate) fn stop(&mut self, stop: Stop)
+        ensures { self.new ≡ stopping stop self.old }
+    {
+        if self.is_on() {
+            *self = Power::On(Some(stop));
+        }
+    }
+
     // One operation more.
     pub(crate) fn spend(&mut self) -> Supply
         ensures { Supplies result self.old self.new }
     {
-        if !self.on {
-            return Supply::Gone;
+        match *self {
+            Power::On(None) => Supply::Full,
+            Power::On(Some(Stop { after: 0, kept })) => {
+                *self = Power::Off;
+                Supply::Part(kept)
+            }
+            Power::On(Some(Stop { after, kept })) => {
+                let after = after - 1;
+                *self = Power::On(Some(Stop { after, kept }));
+                Supply::Full
+            }
+            Power::Off => Supply::Gone,
         }
-        let Some(stop) = self.stop else {
-            return Supply::Full;
-        };
-        if stop.after == 0 {
-            self.on = false;
-            return Supply::Part(stop.kept);
-        }
-        self.stop = Some(Stop {
-            after: stop.after - 1,
-            kept: stop.kept,
-        });
-        Supply::Full
     }
 
     pub(crate) fn fail(&mut self)
-        ensures { self.new.on ≡ false }
+        ensures { self.new ≡ Power.Off }
     {
-        self.on = false;
+        *self = Power::Off;
     }
 
-    pub(crate) fn check(&self) -> Result<(), Fault>
-        ensures { is_ok result ≡ self.now.on }
+    pub(crate) fn check(self) -> Result<(), Fault>
+        ensures { is_ok result ≡ is_on self }
     {
-        if self.on { Ok(()) } else { Err(Fault) }
+        if self.is_on() { Ok(()) } else { Err(Fault) }
     }
 }
