@@ -1,4 +1,6 @@
 // Commands that every tree has.
+ghost use Rattle.tree_commands.specs.Runs.{Ran, LastOf};
+
 use crate::key_tree::KeyTree;
 use fields::faults::{Failure, Malformed, Refusal, miscounted};
 use fields::field::Field;
@@ -44,7 +46,9 @@ pub(crate) fn place_of(fields: &[&[u8]]) -> Result<u32, Failure> {
 }
 
 // The bytes of the last change, if any was made.
-fn last_bytes<T: KeyTree>(tree: &Option<T>) -> &[u8] {
+fn last_bytes<T: KeyTree>(tree: &Option<T>) -> &[u8]
+    ensures { LastOf T.last_gives tree.now result.now }
+{
     match tree {
         Some(tree) => tree.bytes(),
         None => &[],
@@ -101,7 +105,9 @@ impl TreeCommand {
     }
 
     // Carries the command out.
-    pub fn run<T: KeyTree>(self, heap: Global, tree: &mut Option<T>) -> Result<String, Failure> {
+    pub fn run<T: KeyTree>(self, heap: Global, tree: &mut Option<T>) -> Result<String, Failure>
+        ensures { Ran T.new_gives T.put_gives T.out_gives T.last_gives self tree.old result tree.new }
+    {
         match self {
             TreeCommand::Tree { levels } => {
                 *tree = Some(T::new(heap, levels)?);

@@ -1,4 +1,7 @@
 // A rehearsal has the commands of every tree, and no others.
+ghost use Rattle.std.specs.Prelude.{◌≡◌, vec_items};
+ghost use Rattle.tree_commands.specs.Trees.{Empty, PutTold, TakenTold};
+
 use crate::key_tree::KeyTree;
 use fields::faults::Failure;
 use rehearsal::levels::Levels;
@@ -6,6 +9,14 @@ use rehearsal::state::Rehearsal;
 use std::alloc::{AllocError, Global};
 
 impl KeyTree for Rehearsal {
+    ghost new_gives = { Empty };
+
+    ghost put_gives = { PutTold };
+
+    ghost out_gives = { TakenTold };
+
+    ghost last_gives = { λ tree bytes. bytes ≡ vec_items tree.bytes };
+
     fn new(heap: Global, levels: Levels) -> Result<Rehearsal, AllocError> {
         Ok(Rehearsal::new(heap, levels))
     }
