@@ -1,11 +1,14 @@
 // Why a line has no bytes for an answer.
 ghost use Rattle.std.specs.Prelude.{◌≡◌};
+ghost use Rattle.fields.specs.Faults.{unmade, unstored};
 ghost use Rattle.fields.specs.declared.faults.Failure.TheVariants as fails;
 ghost use Rattle.fields.specs.declared.faults.Malformed.TheVariants.{FieldCount};
 ghost use Rattle.fields.specs.declared.faults.Refusal.TheVariants as refusals;
 
 use crate::field::Field;
 use chacha20::stream::TooLong;
+use descent::failure::Failure as Unstored;
+use rehearsal::failure::Failure as Unmade;
 use sealing::opening::DoesNotOpen;
 use std::alloc::AllocError;
 use std::fmt;
@@ -132,6 +135,29 @@ impl From<DoesNotOpen> for Failure {
 
     fn from(_does_not_open: DoesNotOpen) -> Failure {
         Failure::Refused(Refusal::DoesNotOpen)
+    }
+}
+
+impl From<Unmade> for Failure {
+    ghost from_gives = { λ why r. r ≡ unmade why };
+
+    fn from(why: Unmade) -> Failure {
+        match why {
+            Unmade::Refused(why) => why.into(),
+            Unmade::Memory => Failure::Memory,
+        }
+    }
+}
+
+// Devices in memory fail only where there is no memory.
+impl From<Unstored> for Failure {
+    ghost from_gives = { λ why r. r ≡ unstored why };
+
+    fn from(why: Unstored) -> Failure {
+        match why {
+            Unstored::Refused(why) => why.into(),
+            Unstored::Memory | Unstored::Device | Unstored::Stopped => Failure::Memory,
+        }
     }
 }
 
