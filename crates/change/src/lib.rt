@@ -7,4 +7,6 @@ mod climb;
 pub mod failure;
 pub mod keys;
 pub mod node;
+#[cfg(test)]
+mod tests;
 mod write;

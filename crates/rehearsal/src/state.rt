@@ -1,5 +1,7 @@
 // A small tree of keys, and its changes.
 ghost use Rattle.std.specs.Prelude.{◌≡◌, ◌+◌, ◌^◌, ◌<◌, ◌≤◌, [], replicate, IfOk, Some, None};
+ghost use Rattle.forgetting.specs.Change.{draws};
+ghost use Rattle.change.specs.Nodes.{content_in};
 ghost use Rattle.rehearsal.specs.Changes.{Recorded, Put, Taken};
 ghost use Rattle.rehearsal.specs.Levels.{levels_of};
 
@@ -7,6 +9,7 @@ use crate::given::Given;
 use crate::levels::Levels;
 use crate::numbers::Numbers;
 use crate::readable::Written;
+use change::change::change;
 use change::failure::Failure;
 use change::keys::Drawn;
 use cipher::transparent::Transparent;
@@ -71,28 +74,25 @@ impl Rehearsal {
         &self.bytes
     }
 
-    // The records of a put at the end of a buffer, and the number of the root's new key.
-    fn write_put(
+    // The records of a change at the end of a buffer, with so many keys, and the number of the root's new key.
+    fn write(
         &self,
         levels: u32,
         place: u32,
         node: NodeId,
-        content: &[u8],
+        content: Option<&[u8]>,
+        count: u32,
         out: &mut Vec<u8>,
     ) -> Result<u32, Failure>
-        requires { (node.number ≡ 2 ^ levels + place) × ((out.old.items ≡ []) × (levels ≤ 3)) }
-        ensures { IfOk result (λ root. (root ≡ self.now.last + (levels + 1)) × Recorded levels place self.now.last (Some content.now) self.now.numbers.0 out.new.items) }
+        requires few { levels ≤ 3 }
+        requires node { node.number ≡ 2 ^ levels + place }
+        requires count { count ≡ draws (content_in content) levels }
+        requires empty { out.old.items ≡ [] }
+        ensures { IfOk result (λ root. (root ≡ self.now.last + count) × Recorded levels place self.now.last (content_in content.entry) self.now.numbers.0 out.new.items) }
     {
         let mut room = vec![in self.heap; 0; ROOM]?;
-        let given = Given::new(
-            self.heap,
-            &self.numbers,
-            node,
-            levels,
-            self.last,
-            levels + 1,
-        )?;
-        let root = change::change::put(
+        let given = Given::new(self.heap, &self.numbers, node, levels, self.last, count)?;
+        let root = change(
             &mut Transparent,
             levels,
             place,
@@ -110,34 +110,6 @@ impl Rehearsal {
         Ok(root?)
     }
 
-    // The records of a taking out.
-    fn write_out(
-        &self,
-        levels: u32,
-        place: u32,
-        node: NodeId,
-        out: &mut Vec<u8>,
-    ) -> Result<u32, Failure>
-        requires { (node.number ≡ 2 ^ levels + place) × ((out.old.items ≡ []) × (levels ≤ 3)) }
-        ensures { IfOk result (λ root. (root ≡ self.now.last + levels) × Recorded levels place self.now.last None self.now.numbers.0 out.new.items) }
-    {
-        let given = Given::new(self.heap, &self.numbers, node, levels, self.last, levels)?;
-        let root = change::change::take_out(
-            &mut Transparent,
-            levels,
-            place,
-            Drawn {
-                keys: &given.keys,
-                last: self.last,
-            },
-            &given.siblings,
-            &mut [0; PART],
-            out,
-        );
-        given.wipe();
-        Ok(root?)
-    }
-
     // Puts a content in a place: the number of the root's new key.
     pub fn put(&mut self, place: u32, content: &[u8]) -> Result<u32, Failure>
         ensures { Put place content.now self.old result self.new }
@@ -145,7 +117,7 @@ impl Rehearsal {
         let levels = self.levels.count();
         let node = leaf(levels, place)?;
         let mut out = Vec::new(self.heap);
-        let root = self.write_put(levels, place, node, content, &mut out)?;
+        let root = self.write(levels, place, node, Some(content), levels + 1, &mut out)?;
         let number = self.last + 1;
         self.numbers.give(node, Some(number));
         self.numbers.climb(node, levels, number);
@@ -161,7 +133,7 @@ impl Rehearsal {
         let levels = self.levels.count();
         let node = leaf(levels, place)?;
         let mut out = Vec::new(self.heap);
-        let root = self.write_out(levels, place, node, &mut out)?;
+        let root = self.write(levels, place, node, None, levels, &mut out)?;
         self.numbers.give(node, None);
         self.numbers.climb(node, levels, self.last);
         self.last = root;

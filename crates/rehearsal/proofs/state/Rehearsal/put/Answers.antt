@@ -5,6 +5,6 @@ use Rattle.rehearsal.proofs.state.Rehearsal.put.Goals as goal
 pub returns : goal.returns
 returns c = (
   search rules,
-  subst (λ (levels : ℕ). Recorded levels c.args.place c.args.self.now.last (Some c.args.content.now) c.args.self.now.numbers.0 (vec_items c.write_put.new.out))
+  subst (λ (levels : ℕ). Recorded levels c.args.place c.args.self.now.last (Some c.args.content.now) c.args.self.now.numbers.0 (vec_items c.write.new.out))
       c.count-levels.ensures.value c.in_ok-root.ensures.1,
 )
