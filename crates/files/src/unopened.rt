@@ -1,4 +1,7 @@
 // Why a chip's file can't be used.
+ghost use Rattle.std.specs.Prelude.{◌≡◌};
+ghost use Rattle.files.specs.declared.unopened.Unopened.TheVariants.{Unreadable, Memory};
+
 use std::alloc::AllocError;
 use std::error::Error;
 use std::{fmt, io};
@@ -12,14 +15,18 @@ pub enum Unopened {
 }
 
 impl From<AllocError> for Unopened {
+    ghost from_gives = { λ _ why. why ≡ Memory };
+
     fn from(_error: AllocError) -> Unopened {
-        Unopened::Memory
+        Self::Memory
     }
 }
 
 impl From<io::Error> for Unopened {
+    ghost from_gives = { λ _ why. why ≡ Unreadable };
+
     fn from(_error: io::Error) -> Unopened {
-        Unopened::Unreadable
+        Self::Unreadable
     }
 }
 

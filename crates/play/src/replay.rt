@@ -39,6 +39,7 @@ pub fn replay(
 ) -> Result<Small, Failure> {
     let mut store = empty_store(heap, levels, medium)?;
     for deed in deeds {
+        // A store is let go by into_devices alone, so no `?` here.
         if let Err(why) = change(heap, levels, &mut store, deed) {
             let _ = store.into_devices();
             return Err(why);

@@ -23,8 +23,9 @@ pub fn draw(heap: Global, last: u32, count: u32) -> Result<Vec<Key>, AllocError>
     ensures { IfOk result (λ keys. map (λ (k : Secret). k.bytes) keys.items ≡ keys_after last count) }
 {
     let mut keys = Vec::with_capacity(heap, count as usize)?;
-    for i in 0..count {
-        keys.push_reserved(key_of(last as u64 + 1 + i as u64));
+    let first = u64::from(last) + 1;
+    for number in first..first + u64::from(count) {
+        keys.push_reserved(key_of(number));
     }
     Ok(keys)
 }

@@ -29,14 +29,11 @@ impl Drop for Slot {
 fn zeros(heap: Global) -> Result<Box<Key>, AllocError>
     ensures { IfOk result (λ b. (box_value b).bytes ≡ replicate 32 0) }
 {
-    let mut bytes = [0; 32];
-    match Box::new(heap, Key::take(&mut bytes)) {
-        Ok(key) => Ok(key),
-        Err(back) => {
-            let _unplaced = back.value;
-            Err(AllocError)
-        }
-    }
+    // The key comes back where there is no memory, and `?` can't let it go: its drop asks that it is wiped.
+    Box::new(heap, Key::blank()).map_err(|back| {
+        let _unplaced = back.value;
+        AllocError
+    })
 }
 
 impl Slot {

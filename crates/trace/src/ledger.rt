@@ -7,7 +7,7 @@ use devices::medium::Medium;
 use sealing::key::Key;
 use std::marker::Model;
 
-// The newest key first.
+// The newest key first. It stands beside `Trace`, since what a generic struct holds has a type of code, and no code has these.
 pub struct Ledger {
     ghost keys: { List Given },
 }
