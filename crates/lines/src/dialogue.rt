@@ -1,4 +1,7 @@
 // What lasts from line to line, and the answers.
+ghost use Rattle.std.specs.Prelude.{◌≡◌, IfOk, is_some};
+ghost use Rattle.lines.specs.Answers.{asks};
+
 use fields::faults::Failure;
 use fields::writing::written;
 use seal_commands::Command;
@@ -40,7 +43,9 @@ impl<T: KeyTree> Dialogue<T> {
     }
 
     // The answer to a line without its line feed; none to a blank line or a comment.
-    pub fn answer(&mut self, line: &[u8]) -> Result<Option<String>, AllocError> {
+    pub fn answer(&mut self, line: &[u8]) -> Result<Option<String>, AllocError>
+        ensures { IfOk result (λ answer. is_some answer ≡ asks line.now) }
+    {
         let words = split(self.heap, line)?;
         let Some((word, fields)) = words.split_first() else {
             return Ok(None);
