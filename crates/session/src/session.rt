@@ -9,7 +9,6 @@ use files::chip::FileChip;
 use files::medium::FileMedium;
 use std::alloc::{AllocError, Global};
 use storage::reading::Reading;
-use storage::seat::Seat;
 use storage::state::Store;
 use words::numbers::counter;
 use words::split;
