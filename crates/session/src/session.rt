@@ -8,7 +8,6 @@ use descent::failure::Failure;
 use files::chip::FileChip;
 use files::medium::FileMedium;
 use std::alloc::{AllocError, Global};
-use storage::seat::Seat;
 use storage::state::Store;
 use words::numbers::counter;
 use words::split;
