@@ -8,7 +8,7 @@ ghost use Rattle.std.specs.Option.{option_map};
 
 use std::alloc::{AllocError, Global};
 
-// The value of a digit.
+// The value of a digit. `char::to_digit` would answer a `u32`, to be brought back to a byte.
 fn digit(letter: u8) -> Option<u8>
     ensures { result ≡ digit_of letter }
 {
@@ -27,7 +27,7 @@ fn byte(high: u8, low: u8) -> Option<u8>
     Some(16 * digit(high)? + digit(low)?)
 }
 
-// The character of a digit.
+// The character of a digit. `char::from_digit` would answer an `Option` that is always `Some`.
 fn letter(digit: u8) -> char
     requires { digit < 16 }
     ensures value { result ≡ letter_of digit }
@@ -44,20 +44,18 @@ fn letter(digit: u8) -> char
 pub fn decode(heap: Global, text: &[u8]) -> Result<Option<Vec<u8>>, AllocError>
     ensures { IfOk result (λ bytes. option_map vec_items bytes ≡ decoded text.now) }
 {
-    let mut bytes = Vec::with_capacity(heap, text.len() / 2)?;
-    let mut rest = text;
-    while let [high, low, after @ ..] = rest {
+    let (pairs, odd) = text.as_chunks::<2>();
+    if !odd.is_empty() {
+        return Ok(None);
+    }
+    let mut bytes = Vec::with_capacity(heap, pairs.len())?;
+    for [high, low] in pairs {
         let Some(byte) = byte(*high, *low) else {
             return Ok(None);
         };
         bytes.push(byte)?;
-        rest = after;
     }
-    if rest.is_empty() {
-        Ok(Some(bytes))
-    } else {
-        Ok(None)
-    }
+    Ok(Some(bytes))
 }
 
 // Writes a byte's two digits behind a text.

@@ -21,7 +21,7 @@ const BLOCK: usize = 64;
 
 const ONCE: usize = 32;
 
-// The working memory of the commands. All of it is secret, so its owner holds it on the heap and lends it.
+// The working memory of the commands. All of it is secret, so its owner holds it on the heap and lends it. Between the commands nothing is left in it.
 #[derive(Drop)]
 pub struct Work {
     sealing: Workspace,
