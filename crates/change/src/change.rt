@@ -9,7 +9,7 @@ use crate::check::{check, draws, first};
 use crate::climb::climb;
 use crate::failure::Failure;
 use crate::keys::{Drawn, hand_over};
-use crate::node::NodeKey;
+use crate::path::Path;
 use crate::write::{push_content, push_out};
 use cipher::sealing_trait::Sealing;
 use sealing::key::Key;
@@ -42,157 +42,95 @@ fn push_place<S: Sealing>(
 fn write<S: Sealing>(
     cipher: &mut S,
     node: NodeId,
-    levels: usize,
+    path: Path<'_>,
     content: Option<&[u8]>,
     drawn: Drawn<'_>,
-    siblings: &[Option<NodeKey>],
     part: &mut [u8; 48],
     room: &mut [u8],
     out: &mut Vec<u8>,
 ) -> Result<(), AllocError>
-    requires keys { draws (content_in content) levels ≤ length drawn.keys.now }
-    requires numbers { drawn.last + 1 + draws (content_in content) levels < 2 ^ 32 }
-    requires siblings { levels ≤ length siblings.now }
+    requires keys { draws (content_in content) path.levels ≤ length drawn.keys.now }
+    requires numbers { drawn.last + 1 + draws (content_in content) path.levels < 2 ^ 32 }
     requires content { IfSome (content_in content) (λ c. length c ≤ 4096) }
     requires room { IsSome content → 4112 ≤ length room.old }
-    ensures { Extends result out.old.items (place_bytes S.sealed node.number drawn.entry.last drawn.entry.keys.now (content_in content.entry) ++ turns_bytes S.sealed node.number (first_of (content_in content.entry)) drawn.entry.last drawn.entry.keys.now siblings.now levels) out.new.items }
+    ensures { Extends result out.old.items (place_bytes S.sealed node.number drawn.entry.last drawn.entry.keys.now (content_in content.entry) ++ turns_bytes S.sealed node.number (first_of (content_in content.entry)) drawn.entry.last drawn.entry.keys.now path.entry.siblings.now path.entry.levels) out.new.items }
 {
     push_place(cipher, node, content, drawn, room, out)?;
-    climb(
-        cipher,
-        node,
-        levels,
-        first(content),
-        drawn,
-        siblings,
-        part,
-        out,
-    )
+    climb(cipher, node, path, first(content), drawn, part, out)
 }
 
-// Changes a place: puts a content in, whatever it held; or takes out what it holds, or nothing. The records of the change at the end of `out`, and the number of the root's new key. `siblings` has the siblings along the path, from the place up; `part` and `room` are working memory, which holds nothing that isn't sealed afterwards. A taking out needs no room, so the two are lent apart.
+// Changes a place: puts a content in, whatever it held; or takes out what it holds, or nothing. The records of the change at the end of `out`, and the number of the root's new key. `part` and `room` are working memory, which holds nothing that isn't sealed afterwards. A taking out needs no room, so the two are lent apart.
 pub fn change<S: Sealing>(
     cipher: &mut S,
-    levels: u32,
-    place: u32,
+    path: Path<'_>,
     content: Option<&[u8]>,
     drawn: Drawn<'_>,
-    siblings: &[Option<NodeKey>],
     part: &mut [u8; 48],
     room: &mut [u8],
     out: &mut Vec<u8>,
 ) -> Result<u32, Failure>
-    requires siblings { levels ≤ length siblings.now }
     requires room { IsSome content → 4112 ≤ length room.old }
-    ensures { Writes S.sealed levels place (content_in content.entry) drawn.entry.keys.now drawn.entry.last siblings.now out.old.items result out.new.items }
+    ensures { Writes S.sealed path.entry.levels path.entry.place (content_in content.entry) drawn.entry.keys.now drawn.entry.last path.entry.siblings.now out.old.items result out.new.items }
 {
-    let node = check(levels, place, content, drawn.keys.len(), drawn.last)?;
+    let node = check(path, content, drawn)?;
     let before = out.len();
-    let written = write(
-        cipher,
-        node,
-        levels as usize,
-        content,
-        drawn,
-        siblings,
-        part,
-        room,
-        out,
-    );
+    let written = write(cipher, node, path, content, drawn, part, room, out);
     if written.is_err() {
         out.truncate(before);
         return Err(Failure::Memory);
     }
-    Ok(drawn.last + draws(levels, content))
+    Ok(drawn.last + draws(path.levels, content))
 }
 
 // Puts a content in a place.
 pub fn put<S: Sealing>(
     cipher: &mut S,
-    levels: u32,
-    place: u32,
+    path: Path<'_>,
     content: &[u8],
     drawn: Drawn<'_>,
-    siblings: &[Option<NodeKey>],
     part: &mut [u8; 48],
     room: &mut [u8],
     out: &mut Vec<u8>,
 ) -> Result<u32, Failure>
-    requires { (levels ≤ length siblings.now) × (4112 ≤ length room.old) }
-    ensures { Writes S.sealed levels place (Some content.now) drawn.entry.keys.now drawn.entry.last siblings.now out.old.items result out.new.items }
+    requires { 4112 ≤ length room.old }
+    ensures { Writes S.sealed path.entry.levels path.entry.place (Some content.now) drawn.entry.keys.now drawn.entry.last path.entry.siblings.now out.old.items result out.new.items }
 {
-    change(
-        cipher,
-        levels,
-        place,
-        Some(content),
-        drawn,
-        siblings,
-        part,
-        room,
-        out,
-    )
+    change(cipher, path, Some(content), drawn, part, room, out)
 }
 
 // Takes out what a place holds, or nothing.
 pub fn take_out<S: Sealing>(
     cipher: &mut S,
-    levels: u32,
-    place: u32,
+    path: Path<'_>,
     drawn: Drawn<'_>,
-    siblings: &[Option<NodeKey>],
     part: &mut [u8; 48],
     out: &mut Vec<u8>,
 ) -> Result<u32, Failure>
-    requires { levels ≤ length siblings.now }
-    ensures { Writes S.sealed levels place None drawn.entry.keys.now drawn.entry.last siblings.now out.old.items result out.new.items }
+    ensures { Writes S.sealed path.entry.levels path.entry.place None drawn.entry.keys.now drawn.entry.last path.entry.siblings.now out.old.items result out.new.items }
 {
-    change(
-        cipher,
-        levels,
-        place,
-        None,
-        drawn,
-        siblings,
-        part,
-        &mut [],
-        out,
-    )
+    change(cipher, path, None, drawn, part, &mut [], out)
 }
 
 // A change to its end: the root's new key is in `root`, and every key that was handed in is zeros. Refused, or out of memory, the keys are as they were. The working memory is zeros on every way.
 fn change_and_hand_over<S: Sealing>(
     cipher: &mut S,
-    levels: u32,
-    place: u32,
+    path: Path<'_>,
     content: Option<&[u8]>,
     keys: &mut [Key],
     last: u32,
-    siblings: &[Option<NodeKey>],
     part: &mut [u8; 48],
     room: &mut [u8],
     out: &mut Vec<u8>,
     root: &mut Key,
 ) -> Result<u32, Failure>
-    requires some { 1 ≤ draws (content_in content) levels }
-    requires siblings { levels ≤ length siblings.now }
+    requires some { 1 ≤ draws (content_in content) path.levels }
     requires room { IsSome content → 4112 ≤ length room.old }
-    ensures writes { Writes S.sealed levels place (content_in content.entry) keys.old last siblings.now out.old.items result out.new.items }
-    ensures leaves { Leaves (draws (content_in content.entry) levels - 1) keys.old root.old result keys.new root.new }
+    ensures writes { Writes S.sealed path.entry.levels path.entry.place (content_in content.entry) keys.old last path.entry.siblings.now out.old.items result out.new.items }
+    ensures leaves { Leaves (draws (content_in content.entry) path.entry.levels - 1) keys.old root.old result keys.new root.new }
     ensures part { part.new ≡ replicate 48 0 }
     ensures room { room.new ≡ replicate (length room.old) 0 }
 {
-    let answer = change(
-        cipher,
-        levels,
-        place,
-        content,
-        Drawn { keys, last },
-        siblings,
-        part,
-        room,
-        out,
-    );
+    let answer = change(cipher, path, content, Drawn { keys, last }, part, room, out);
     *part = [0; 48];
     octets::wipe(room);
     let number = answer?;
@@ -203,31 +141,27 @@ fn change_and_hand_over<S: Sealing>(
 // A put to its end.
 pub fn put_and_hand_over<S: Sealing>(
     cipher: &mut S,
-    levels: u32,
-    place: u32,
+    path: Path<'_>,
     content: &[u8],
     keys: &mut [Key],
     last: u32,
-    siblings: &[Option<NodeKey>],
     part: &mut [u8; 48],
     room: &mut [u8],
     out: &mut Vec<u8>,
     root: &mut Key,
 ) -> Result<u32, Failure>
-    requires { (levels ≤ length siblings.now) × (4112 ≤ length room.old) }
-    ensures writes { Writes S.sealed levels place (Some content.now) keys.old last siblings.now out.old.items result out.new.items }
-    ensures leaves { Leaves levels keys.old root.old result keys.new root.new }
+    requires { 4112 ≤ length room.old }
+    ensures writes { Writes S.sealed path.entry.levels path.entry.place (Some content.now) keys.old last path.entry.siblings.now out.old.items result out.new.items }
+    ensures leaves { Leaves path.entry.levels keys.old root.old result keys.new root.new }
     ensures part { part.new ≡ replicate 48 0 }
     ensures room { room.new ≡ replicate (length room.old) 0 }
 {
     change_and_hand_over(
         cipher,
-        levels,
-        place,
+        path,
         Some(content),
         keys,
         last,
-        siblings,
         part,
         room,
         out,
@@ -238,31 +172,17 @@ pub fn put_and_hand_over<S: Sealing>(
 // A taking out to its end.
 pub fn take_out_and_hand_over<S: Sealing>(
     cipher: &mut S,
-    levels: u32,
-    place: u32,
+    path: Path<'_>,
     keys: &mut [Key],
     last: u32,
-    siblings: &[Option<NodeKey>],
     part: &mut [u8; 48],
     out: &mut Vec<u8>,
     root: &mut Key,
 ) -> Result<u32, Failure>
-    requires { (1 ≤ levels) × (levels ≤ length siblings.now) }
-    ensures writes { Writes S.sealed levels place None keys.old last siblings.now out.old.items result out.new.items }
-    ensures leaves { Leaves (levels - 1) keys.old root.old result keys.new root.new }
+    requires { 1 ≤ path.levels }
+    ensures writes { Writes S.sealed path.entry.levels path.entry.place None keys.old last path.entry.siblings.now out.old.items result out.new.items }
+    ensures leaves { Leaves (path.entry.levels - 1) keys.old root.old result keys.new root.new }
     ensures part { part.new ≡ replicate 48 0 }
 {
-    change_and_hand_over(
-        cipher,
-        levels,
-        place,
-        None,
-        keys,
-        last,
-        siblings,
-        part,
-        &mut [],
-        out,
-        root,
-    )
+    change_and_hand_over(cipher, path, None, keys, last, part, &mut [], out, root)
 }

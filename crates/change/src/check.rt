@@ -1,9 +1,11 @@
 // The refusals of a change, the lowest number first.
-ghost use Rattle.std.specs.Prelude.{◌≡◌, ℕ, ◌+◌, ◌^◌, ◌<◌, ◌≤◌, Some, None};
+ghost use Rattle.std.specs.Prelude.{◌≡◌, ℕ, ◌+◌, ◌^◌, ◌<◌, ◌≤◌, length, Some, None};
 ghost use Rattle.forgetting.specs.Change.{draws};
 ghost use Rattle.change.specs.Nodes.{content_in, first_of};
 ghost use Rattle.change.specs.Outcome.{Checked, is_content};
 
+use crate::keys::Drawn;
+use crate::path::Path;
 use records::record::{HIGHEST, LONGEST_CONTENT};
 use tree::answer::Refusal;
 use tree::node::NodeId;
@@ -42,23 +44,21 @@ pub fn can_hold(content: Option<&[u8]>) -> bool
 
 // The node of the place that can be changed so.
 pub(crate) fn check(
-    levels: u32,
-    place: u32,
+    path: Path<'_>,
     content: Option<&[u8]>,
-    given: usize,
-    last: u32,
+    drawn: Drawn<'_>,
 ) -> Result<NodeId, Refusal>
-    ensures { Checked levels place (content_in content.entry) given last result }
+    ensures { Checked path.entry.levels path.entry.place (content_in content.entry) (length drawn.entry.keys.now) drawn.entry.last result }
 {
-    let node = place_node(levels, place).ok_or(Refusal::NoSuchPlace)?;
+    let node = place_node(path.levels, path.place).ok_or(Refusal::NoSuchPlace)?;
     if !can_hold(content) {
         return Err(Refusal::NoSuchPlace);
     }
-    let draws = draws(levels, content);
-    if given < draws as usize {
+    let draws = draws(path.levels, content);
+    if drawn.keys.len() < draws as usize {
         return Err(Refusal::FewKeys);
     }
-    if last > HIGHEST - draws {
+    if drawn.last > HIGHEST - draws {
         return Err(Refusal::NumbersSpent);
     }
     Ok(node)

@@ -6,6 +6,7 @@ ghost use Rattle.change.specs.Turns.{turn_bytes, turns_bytes};
 
 use crate::keys::Drawn;
 use crate::node::NodeKey;
+use crate::path::Path;
 use crate::write::{push_key, push_node};
 use cipher::sealing_trait::Sealing;
 use std::alloc::AllocError;
@@ -46,22 +47,21 @@ fn push_both<S: Sealing>(
     push_node(cipher, node.sibling(), sibling, drawn.key(j), part, out)
 }
 
-// The turns from a node up, one for each of so many levels; `first` is the index of the key that the node above it gets.
+// The turns from a node up, one for each level of the path; `first` is the index of the key that the node above it gets.
 pub(crate) fn climb<S: Sealing>(
     cipher: &mut S,
     start: NodeId,
-    levels: usize,
+    path: Path<'_>,
     first: usize,
     drawn: Drawn<'_>,
-    siblings: &[Option<NodeKey>],
     part: &mut [u8; 48],
     out: &mut Vec<u8>,
 ) -> Result<(), AllocError>
-    requires { (levels + first ≤ length drawn.keys.now) × ((drawn.last + 1 + levels + first < 2 ^ 32) × (levels ≤ length siblings.now)) }
-    ensures { Extends result out.old.items (turns_bytes S.sealed start.number first drawn.entry.last drawn.entry.keys.now siblings.now levels) out.new.items }
+    requires { (path.levels + first ≤ length drawn.keys.now) × (drawn.last + 1 + path.levels + first < 2 ^ 32) }
+    ensures { Extends result out.old.items (turns_bytes S.sealed start.number first drawn.entry.last drawn.entry.keys.now path.entry.siblings.now path.entry.levels) out.new.items }
 {
     let mut node = start;
-    for (h, sibling) in siblings[0..levels].iter().enumerate() {
+    for (h, sibling) in path.siblings[0..path.levels as usize].iter().enumerate() {
         push_both(cipher, node, h + first, drawn, sibling, part, out)?;
         node = node.parent();
     }

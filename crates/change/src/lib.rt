@@ -7,6 +7,7 @@ mod climb;
 pub mod failure;
 pub mod keys;
 pub mod node;
+pub mod path;
 #[cfg(test)]
 mod tests;
 mod write;

@@ -5,6 +5,7 @@ use crate::change::change;
 use crate::failure::Failure;
 use crate::keys::Drawn;
 use crate::node::{NodeKey, let_go};
+use crate::path::Path;
 use cipher::transparent::Transparent;
 use sealing::key::Key;
 use std::alloc::{AllocError, Global};
@@ -32,13 +33,16 @@ fn change_first(
         keys: &keys,
         last: 0,
     };
+    let path = Path {
+        levels: 1,
+        place: 0,
+        siblings: &siblings,
+    };
     let answer = change(
         &mut Transparent,
-        1,
-        0,
+        path,
         content,
         drawn,
-        &siblings,
         &mut [0; 48],
         &mut room,
         &mut out,

@@ -12,6 +12,7 @@ use crate::readable::Written;
 use change::change::change;
 use change::failure::Failure;
 use change::keys::Drawn;
+use change::path::Path;
 use cipher::transparent::Transparent;
 use std::alloc::Global;
 use tree::answer::Refusal;
@@ -92,16 +93,20 @@ impl Rehearsal {
     {
         let mut room = vec![in self.heap; 0; ROOM]?;
         let given = Given::new(self.heap, &self.numbers, node, levels, self.last, count)?;
-        let root = change(
-            &mut Transparent,
+        let drawn = Drawn {
+            keys: &given.keys,
+            last: self.last,
+        };
+        let path = Path {
             levels,
             place,
+            siblings: &given.siblings,
+        };
+        let root = change(
+            &mut Transparent,
+            path,
             content,
-            Drawn {
-                keys: &given.keys,
-                last: self.last,
-            },
-            &given.siblings,
+            drawn,
             &mut [0; PART],
             &mut room,
             out,

@@ -10,6 +10,7 @@ use crate::work::Work;
 use change::change::change;
 use change::keys::Drawn;
 use change::node::{NodeKey, clear_all};
+use change::path::Path;
 use cipher::sealing_trait::Sealing;
 use descent::failure::Failure;
 use descent::source::Source;
@@ -40,17 +41,12 @@ fn collect_and_write<S: Sealing, M: Medium>(
     ensures prepares { OfShown S.sealed leaf.levels (rows_of index.now) key.old.bytes (M.log source.old.medium) (M.log source.new.medium) (Prepares S.sealed leaf.levels leaf.place drawn.entry.last (content_in content.entry) drawn.entry.keys.now result out.new.items) }
 {
     source.collect(index, leaf, key, part, siblings)?;
-    let number = change(
-        &mut source.cipher,
-        leaf.levels,
-        leaf.place,
-        content,
-        drawn,
+    let path = Path {
+        levels: leaf.levels,
+        place: leaf.place,
         siblings,
-        part,
-        room,
-        out,
-    )?;
+    };
+    let number = change(&mut source.cipher, path, content, drawn, part, room, out)?;
     Ok(number)
 }
 
