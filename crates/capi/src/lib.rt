@@ -1,4 +1,4 @@
-// Sealing and opening for programs in C and Rust. Each call takes its working memory from the heap; false also where there is none.
+// Sealing and opening for programs in C and Rust. Each call takes its working memory from the heap; false also where there is none. The answers are C's, a bool, and each call is written out whole, as C declares it.
 #![tactic(auto)]
 
 ghost use Rattle.capi.specs.Calls.{Sealed, Opened};

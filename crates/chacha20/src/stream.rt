@@ -31,7 +31,7 @@ pub struct Stream {
     block: [u8; 64],
 }
 
-// The state that a block begins from, word by word as the standard draws it.
+// The state that a block begins from, word by word as the standard draws it. Key, counter and nonce are its three arguments everywhere; callers have each from elsewhere.
 #[tactic(auto, unfolding(crate::specs::ChaCha20::initial, crate::specs::ChaCha20::word))]
 fn initial_state(key: &[u8; 32], counter: u32, nonce: &[u8; 12]) -> [u32; 16]
     ensures { result ≡ initial key.now counter nonce.now }

@@ -2,8 +2,8 @@
 use Rattle.fields.specs.declared.faults.Failure.{Failure}
 use Rattle.fields.specs.declared.faults.Failure.TheVariants.{Refused, Memory}
 use Rattle.fields.specs.declared.faults.Refusal.TheVariants.{Change}
-use Rattle.rehearsal.specs.declared.failure.Failure as change
-use Rattle.rehearsal.specs.declared.failure.Failure.TheVariants as changes
+use Rattle.change.specs.declared.failure.Failure as change
+use Rattle.change.specs.declared.failure.Failure.TheVariants as changes
 use Rattle.descent.specs.declared.failure.Failure as store
 use Rattle.descent.specs.declared.failure.Failure.TheVariants as stores
 

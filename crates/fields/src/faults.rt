@@ -7,8 +7,8 @@ ghost use Rattle.fields.specs.declared.faults.Refusal.TheVariants as refusals;
 
 use crate::field::Field;
 use chacha20::stream::TooLong;
+use change::failure::Failure as Unmade;
 use descent::failure::Failure as Unstored;
-use rehearsal::failure::Failure as Unmade;
 use sealing::opening::DoesNotOpen;
 use std::alloc::AllocError;
 use std::fmt;

@@ -57,6 +57,7 @@ pub fn seal(
     ensures value { Seals key.now.bytes nonce.now.0 marked.now text.old result text.new }
     ensures wiped { Idle work.new }
 {
+    // The working memory is wiped before a refusal is handed on.
     if let Err(why) = work.apply(key, nonce, text) {
         work.wipe();
         return Err(why);
