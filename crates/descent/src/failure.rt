@@ -7,7 +7,7 @@ ghost use Rattle.descent.specs.declared.failure.Failure.TheVariants as fails;
 use change::failure::Failure as Unwritten;
 use devices::fault::Fault;
 use sealing::opening::DoesNotOpen;
-use std::alloc::AllocError;
+use std::alloc::{AllocError, AllocFailed};
 use tree::answer::Refusal;
 
 #[derive(Clone, Copy, PartialEq, Eq, Debug)]
@@ -42,6 +42,15 @@ impl From<AllocError> for Failure {
     ghost from_gives = { λ _ r. r ≡ fails.Memory };
 
     fn from(_error: AllocError) -> Failure {
+        Failure::Memory
+    }
+}
+
+// What was not stored is let go.
+impl<T: Drop> From<AllocFailed<T>> for Failure {
+    ghost from_gives = { λ _ r. r ≡ fails.Memory };
+
+    fn from(_error: AllocFailed<T>) -> Failure {
         Failure::Memory
     }
 }

@@ -32,9 +32,8 @@ impl<S: Sealing, M: Medium> Source<S, M> {
         ensures down { OfShown S.sealed leaf.levels (rows_of index.now) key.old.bytes (M.log self.old.medium) (M.log self.new.medium) (Descends leaf.levels leaf.place result key.new.bytes) }
     {
         let node = leaf.node();
-        // Counted up: g is how many levels the node that was reached has above it, and what is known of it is said by g.
-        for g in 0..leaf.levels {
-            let on_path = node.ancestor(leaf.levels - 1 - g);
+        for h in (0..leaf.levels).rev() {
+            let on_path = node.ancestor(h);
             let row = index.key(on_path.number).ok_or(Refusal::Nothing)?;
             self.step_down(on_path, row, key, part)?;
         }
@@ -93,9 +92,7 @@ impl<S: Sealing, M: Medium> Source<S, M> {
         ensures all { OfShown S.sealed leaf.levels (rows_of index.now) key.old.bytes (M.log self.old.medium) (M.log self.new.medium) (Collects leaf.levels leaf.place result siblings.new) }
     {
         let node = leaf.node();
-        // Counted up, as above.
-        for g in 0..leaf.levels - 1 {
-            let h = leaf.levels - 1 - g;
+        for h in (1..leaf.levels).rev() {
             let on_path = node.ancestor(h);
             let beside = on_path.sibling();
             let row = index.key(beside.number);

@@ -68,7 +68,7 @@ fn bytes_after(heap: Global, medium: &MemoryMedium, end: usize) -> Result<Vec<u8
     Ok(rest.to_vec(heap)?)
 }
 
-// Why the ledger notes nothing.
+// Why the ledger notes nothing. No From: it would have to stand in the ledger or in descent, and neither knows of the other.
 fn unnoted(why: ledger::answer::Failure) -> Failure {
     match why {
         ledger::answer::Failure::NoSuchPlace => Failure::Refused(Refusal::NoSuchPlace),
@@ -190,7 +190,8 @@ impl Play {
         } else {
             self.ledger.out(deed.place).map_err(unnoted)?;
         }
-        self.deeds.push(deed).map_err(|_| Failure::Memory)
+        self.deeds.push(deed)?;
+        Ok(())
     }
 
     // A change that was cut off leaves the store as it was.

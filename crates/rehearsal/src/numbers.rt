@@ -39,10 +39,10 @@ impl Numbers {
         ensures { self.new.0 ≡ climbed levels start.number last self.old.0 }
     {
         let mut node = start;
-        // Not over the numbers: the first, last + 1, fits only where there are levels.
-        for h in 0..levels {
+        // Over the numbers before: the first number, last + 1, fits only where there are levels.
+        for before in last..last + levels {
             node = node.parent();
-            self.give(node, Some(last + h + 1));
+            self.give(node, Some(before + 1));
         }
     }
 }

@@ -1,4 +1,4 @@
--- After g turns nothing was changed on the medium, the key is that of the path node with g levels above it, and the siblings of that level and above are there.
+-- With h levels left nothing was changed on the medium, the key is that of the path node with h levels below it, and the siblings of that level and above are there.
 use Rattle.std.proofs.Common.{◌≡◌, ℕ, ◌-◌, ◌/◌, ◌^◌, ◌<◌, ◌≤◌}
 use Rattle.forgetting.specs.Climb.{sibling_key}
 use Rattle.change.specs.Nodes.{sibling_in}
@@ -7,9 +7,10 @@ use Rattle.index.specs.Noted.{rows_of}
 use Rattle.descent.specs.Path.{OfShown, KeyAt}
 use Rattle.descent.proofs.source.Source.collect.Given as goal
 
-abbrev pub invariant-loop-g : goal.invariant-loop-g
-invariant-loop-g g l =
+abbrev pub invariant-loop-h : goal.invariant-loop-h
+invariant-loop-h g l =
     (changes (g.M.Medium.log l.self.medium) ≡ changes (g.M.Medium.log l.initial.self.medium))
-    × OfShown g.S.Sealing.sealed l.leaf.levels (rows_of l.index) l.initial.key.bytes (g.M.Medium.log l.initial.self.medium) (g.M.Medium.log l.self.medium) (KeyAt l.key.bytes l.g (l.leaf.place / 2 ^ (l.leaf.levels - l.g)))
-    × OfShown g.S.Sealing.sealed l.leaf.levels (rows_of l.index) l.initial.key.bytes (g.M.Medium.log l.initial.self.medium) (g.M.Medium.log l.self.medium)
-    (λ t. (h : ℕ) → l.leaf.levels - l.g ≤ h → h < l.leaf.levels → sibling_in l.siblings h ≡ sibling_key l.leaf.levels l.leaf.place h t)
+    × OfShown g.S.Sealing.sealed l.fn.leaf.levels (rows_of l.index) l.initial.key.bytes (g.M.Medium.log l.initial.self.medium) (g.M.Medium.log l.self.medium) (KeyAt l.key.bytes (l.fn.leaf.levels - l.h) (l.fn.leaf.place / 2 ^ l.h))
+    × OfShown g.S.Sealing.sealed l.fn.leaf.levels (rows_of l.index) l.initial.key.bytes (g.M.Medium.log l.initial.self.medium) (g.M.Medium.log l.self.medium)
+    (λ t. (h : ℕ) → l.h ≤ h → h < l.fn.leaf.levels → sibling_in l.siblings h ≡ sibling_key l.fn.leaf.levels l.fn.leaf.place h t)
+    × (1 ≤ l.h)
