@@ -55,7 +55,7 @@ pub enum Refusal {
     Change(Unchanged),
 }
 
-// Why a change is refused.
+// Why a change is refused. The texts of session say it in other words; both are printed, so both stay.
 fn reason(why: Unchanged) -> &'static str {
     match why {
         Unchanged::NoSuchPlace => "no such place, or a content of 0 or more than 4096 bytes",

@@ -107,6 +107,7 @@ impl Index {
     {
         let mut left = bytes;
         let mut from = at;
+        // A cursor over records: an iterator over them would be a type of its own with its laws, and longer.
         while let Ok((record, rest)) = decode(levels, left) {
             self.note(levels, from, &record);
             from += (left.len() - rest.len()) as u64;

@@ -53,6 +53,7 @@ pub struct Play {
 // How many bytes the first so many records have.
 fn length_of(levels: u32, bytes: &[u8], count: u32) -> usize {
     let mut rest = bytes;
+    // A cursor over records: an iterator over them would be a type of its own, and longer.
     for _ in 0..count {
         let Ok((_, after)) = decode(levels, rest) else {
             break;

@@ -12,6 +12,7 @@ impl fmt::Display for Verdicts<'_> {
         if puts == 0 {
             return f.write_str("no puts");
         }
+        // By number, which is printed, and by which the ledger knows a put: no list of verdicts is there to go over.
         for put in 0..puts {
             if put > 0 {
                 f.write_str("; ")?;

@@ -10,7 +10,7 @@ pub enum Levels {
 }
 
 impl Levels {
-    // The levels of a tree with so many places.
+    // The levels of a tree with so many places. Not TryFrom: it is called as `.and_then(Levels::of_places)`, which would be `.and_then(|places| Levels::try_from(places).ok())`.
     pub fn of_places(places: u32) -> Option<Levels>
         ensures { IfSome result (λ levels. places ≡ 2 ^ levels_of levels) }
     {
@@ -22,6 +22,7 @@ impl Levels {
         }
     }
 
+    // Not From: `u32::from(levels)` would not say that they are counted.
     pub fn count(self) -> u32
         ensures value { result ≡ levels_of self }
         ensures bound { result ≤ 3 }

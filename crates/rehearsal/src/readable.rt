@@ -86,6 +86,7 @@ pub struct Written<'a> {
 impl fmt::Display for Written<'_> {
     fn fmt<W: fmt::Write>(&self, f: &mut fmt::Formatter<W>) -> fmt::Result {
         let mut rest = self.bytes;
+        // A cursor over records: an iterator over them would be a type of its own, and longer.
         while let Ok((record, after)) = decode(self.levels, rest) {
             let told = Told(record);
             write!(f, "{told}; ")?;

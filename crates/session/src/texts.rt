@@ -27,7 +27,7 @@ impl From<AllocError> for Undone {
     }
 }
 
-// A refusal in words.
+// A refusal in words. The faults of fields say it in other words; both are printed, so both stay.
 fn why(refusal: Refusal) -> &'static str {
     match refusal {
         Refusal::NoSuchPlace => "no such place, or no content that a place can hold",

@@ -16,6 +16,7 @@ fn blank_nodes(heap: Global, count: u32) -> Result<Vec<Option<NodeKey>>, AllocEr
     ensures { IfOk result (λ nodes. (vec_len nodes ≡ count) × Keyless nodes.items) }
 {
     let mut nodes = Vec::with_capacity(heap, count as usize)?;
+    // The library's ways to fill a Vec ask for elements that are Clone or Drop, and a key is neither.
     for _h in 0..count {
         nodes.push_reserved(None);
     }
