@@ -11,10 +11,7 @@ use tree_commands::key_tree::KeyTree;
 
 // The line without its line feed; the last line may lack it.
 fn without_feed(line: &[u8]) -> &[u8] {
-    match line {
-        [front @ .., b'\n'] => front,
-        _ => line,
-    }
+    line.strip_suffix(b"\n").unwrap_or(line)
 }
 
 // Answers each line that has an answer as soon as it is read.

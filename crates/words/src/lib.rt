@@ -19,10 +19,7 @@ fn is_blank(byte: u8) -> bool
 fn without_return(line: &[u8]) -> &[u8]
     ensures { result.now ≡ bare line.now }
 {
-    match line {
-        [front @ .., b'\r'] => front,
-        _ => line,
-    }
+    line.strip_suffix(b"\r").unwrap_or(line)
 }
 
 // The words of a line without its line feed: what stands between spaces and tabs. A carriage return at the line's end counts as one of those.
