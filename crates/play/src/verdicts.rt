@@ -12,6 +12,7 @@ impl fmt::Display for Verdicts<'_> {
         if puts == 0 {
             return f.write_str("no puts");
         }
+        // A put is its number, which is printed: nothing is indexed.
         for put in 0..puts {
             if put > 0 {
                 f.write_str("; ")?;
