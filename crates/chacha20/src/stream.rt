@@ -23,7 +23,7 @@ const COUNTER: usize = 12;
 #[derive(Clone, Copy, PartialEq, Eq, Debug)]
 pub struct TooLong;
 
-// A key stream under way: the state that the next block begins from, the state that is worked on, and the block. All of it is secret, so it is lent, heap-held by its owner, and zeros whenever no call is under way.
+// A key stream under way: the state that the next block begins from, the state that is worked on, and the block. All of it is secret, so it is lent, heap-held by its owner, and zeros whenever no call is under way: its public calls say so, since of the type it would not hold in the middle of one.
 #[derive(Drop)]
 pub struct Stream {
     input: [u32; 16],

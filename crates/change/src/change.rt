@@ -75,6 +75,7 @@ pub fn change<S: Sealing>(
     let node = check(path, content, drawn)?;
     let before = out.len();
     let written = write(cipher, node, path, content, drawn, part, room, out);
+    // What was begun is cut off again before the error is handed on.
     if written.is_err() {
         out.truncate(before);
         return Err(Failure::Memory);

@@ -4,7 +4,7 @@ ghost use Rattle.change.specs.Nodes.{bytes_in, drawn_key, numbered};
 
 use sealing::key::Key;
 
-// The new keys of one change, in the order in which they are drawn; a smaller tree uses the first ones. Their owner holds them on the heap.
+// The new keys of one change, in the order in which they are drawn; a smaller tree uses the first ones: a list that grows would leave copies of keys behind. Their owner holds them on the heap.
 pub struct NewKeys {
     pub keys: [Key; 11],
     ghost eleven: { length keys ≡ 11 },

@@ -6,7 +6,7 @@ ghost use Rattle.records.specs.Values.{Appends, record_of};
 use crate::record::{CONTENT, CONTENT_FRONT, HEADER_BYTES, KEY, KEY_FRONT, MARK, OUT, Record};
 use std::alloc::AllocError;
 
-// The nine bytes that are marked besides.
+// The nine bytes that are marked besides. Any byte may be the tag: a narrower type would turn callers away.
 #[tactic(auto, unfolding(crate::specs::Format::head, crate::specs::Format::be4))]
 pub fn header(tag: u8, node: u32, number: u32) -> [u8; HEADER_BYTES]
     ensures { result ≡ head tag node number }

@@ -25,7 +25,7 @@ fn text_of(sealed: &[u8]) -> &[u8] {
     }
 }
 
-// A record.
+// A record. Records are of another crate, so what prints them is a type of this one.
 #[derive(Clone, Copy)]
 struct Told<'a>(Record<'a>);
 

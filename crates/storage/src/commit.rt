@@ -34,6 +34,7 @@ fn turn_chip<M: Medium, C: Chip>(
     let Condition::Ready = seat.condition else {
         return Err(Failure::Stopped);
     };
+    // The seat is told, too, so `?` alone would not do.
     if seat.chip.replace(key, number, medium).is_err() {
         seat.condition = Condition::Halted;
         return Err(Failure::Stopped);
