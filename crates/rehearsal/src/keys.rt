@@ -19,7 +19,7 @@ pub fn key_of(number: u64) -> Key
     Key::take(&mut bytes)
 }
 
-// How many keys a change draws: one for each node above the place, and one for its own node where a content is put in.
+// How many keys a change draws: one for each node above the place, and one for its own node where a content is put in. The one of `change` is private to it, and takes borrowed bytes alone.
 pub fn draws<T>(levels: u32, content: &Option<T>) -> u32
     requires { levels ≤ 20 }
     ensures { result ≡ draws content.now levels }
