@@ -1,5 +1,6 @@
 -- The records of a change that is made with the keys after the last number and with the siblings along the path.
-use Rattle.std.proofs.Common.{◌≡◌, ℕ, ◌+◌, ◌/◌, ◌^◌, List, [], ◌∷◌, ◌++◌, map, get_or, None, Ok, Err, Option, Result, IfOk, ap, ◌∙◌, pow-suc, add-one}
+use Rattle.std.specs.Borrow.{Bor}
+use Rattle.std.proofs.Common.{◌≡◌, ℕ, ◌+◌, ◌/◌, ◌^◌, List, [], ◌∷◌, ◌++◌, map, get_or, Some, None, Ok, Err, Option, Result, IfOk, refl, ap, ◌∙◌, pow-suc, add-one}
 use mathlib.Core.List.{map-append}
 use native.Mathlib.Nat.{div-div-eq-div-mul}
 use Rattle.cipher.specs.Sealed.{transparent}
@@ -11,7 +12,7 @@ use Rattle.tree.specs.Nodes.{sibling_of}
 use Rattle.change.specs.declared.node.NodeKey.{NodeKey}
 use Rattle.change.specs.declared.failure.Failure.{Failure}
 use Rattle.change.specs.Coded.{bytes_of}
-use Rattle.change.specs.Nodes.{key_in, bytes_in}
+use Rattle.change.specs.Nodes.{key_in, bytes_in, content_in}
 use Rattle.change.specs.Outcome.{Siblings, Writes}
 use Rattle.rehearsal.specs.Keys.{keys_after}
 use Rattle.rehearsal.specs.Siblings.{keyed, siblings_of}
@@ -47,3 +48,8 @@ pub if_recorded : (levels place last : ℕ) (w : Option (List ℕ)) (keys : List
 if_recorded levels place last w keys nodes numbers before after (Ok root) drawn siblings none writes =
     (writes.1, recorded levels place last w keys nodes numbers before after drawn siblings none writes.2)
 if_recorded levels place last w keys nodes numbers before after (Err why) drawn siblings none writes = tt
+
+-- As many keys for a content that is lent as for its bytes.
+pub draws_lent : (w : Option (Bor (List ℕ))) (levels : ℕ) → draws w levels ≡ draws (content_in w) levels
+draws_lent None levels = refl
+draws_lent (Some content) levels = refl

@@ -1,17 +1,16 @@
 // What a change is made with.
-ghost use Rattle.std.specs.Prelude.{◌≡◌, ◌+◌, ◌^◌, map, IfOk, vec_len};
-ghost use Rattle.change.specs.Nodes.{key_in, content_in};
-ghost use Rattle.forgetting.specs.Change.{draws};
+ghost use Rattle.std.specs.Prelude.{◌≡◌, map, IfOk, vec_len};
+ghost use Rattle.change.specs.Nodes.{key_in};
 ghost use Rattle.rehearsal.specs.Siblings.{keyed, siblings_of};
 ghost use Rattle.rehearsal.specs.Keys.{keys_after};
 ghost use Rattle.sealing.specs.declared.key.Key.{Key as Secret};
 
-use crate::keys::{Keys, draws, key_of};
+use crate::keys::{Keys, key_of};
 use crate::numbers::Numbers;
 use change::node;
 use change::node::NodeKey;
 use std::alloc::{AllocError, Global};
-use tree::leaf::Leaf;
+use tree::node::NodeId;
 
 // The siblings along a path, from the place up; their keys are wiped when they are let go.
 pub struct Siblings(pub Vec<Option<NodeKey>>);
@@ -42,13 +41,18 @@ fn node_of(number: Option<u32>) -> Option<NodeKey>
 }
 
 impl Siblings {
-    // The siblings along the path of a place.
-    fn of(heap: Global, numbers: &Numbers, leaf: Leaf) -> Result<Siblings, AllocError>
-        ensures { IfOk result (λ siblings. (vec_len siblings.0 ≡ leaf.levels) × (map key_in siblings.0.items ≡ siblings_of (2 ^ leaf.levels + leaf.place) numbers.now.0 leaf.levels)) }
+    // The siblings along the path from a node up.
+    fn of(
+        heap: Global,
+        numbers: &Numbers,
+        start: NodeId,
+        levels: u32,
+    ) -> Result<Siblings, AllocError>
+        ensures { IfOk result (λ siblings. (vec_len siblings.0 ≡ levels) × (map key_in siblings.0.items ≡ siblings_of start.number numbers.now.0 levels)) }
     {
-        let mut nodes = Vec::with_capacity(heap, leaf.levels as usize)?;
-        let mut node = leaf.node();
-        for _h in 0..leaf.levels {
+        let mut nodes = Vec::with_capacity(heap, levels as usize)?;
+        let mut node = start;
+        for _h in 0..levels {
             nodes.push_reserved(node_of(numbers.of(node.sibling())));
             node = node.parent();
         }
@@ -57,18 +61,19 @@ impl Siblings {
 }
 
 impl Given {
-    // What the change of a place is made with, after the last number.
+    // So many keys after the last number, and the siblings along the path from a node up.
     pub fn new(
         heap: Global,
         numbers: &Numbers,
-        leaf: Leaf,
-        content: Option<&[u8]>,
+        start: NodeId,
+        levels: u32,
         last: u32,
+        count: u32,
     ) -> Result<Given, AllocError>
-        ensures { IfOk result (λ given. (vec_len given.siblings.0 ≡ leaf.levels) × (map key_in given.siblings.0.items ≡ siblings_of (2 ^ leaf.levels + leaf.place) numbers.now.0 leaf.levels) × (map (λ (k : Secret). k.bytes) given.keys.0.items ≡ keys_after last (draws (content_in content.entry) leaf.levels))) }
+        ensures { IfOk result (λ given. (vec_len given.siblings.0 ≡ levels) × (map key_in given.siblings.0.items ≡ siblings_of start.number numbers.now.0 levels) × (map (λ (k : Secret). k.bytes) given.keys.0.items ≡ keys_after last count)) }
     {
-        let siblings = Siblings::of(heap, numbers, leaf)?;
-        let keys = Keys::draw(heap, last, draws(leaf.levels, &content))?;
+        let siblings = Siblings::of(heap, numbers, start, levels)?;
+        let keys = Keys::draw(heap, last, count)?;
         Ok(Given { keys, siblings })
     }
 }

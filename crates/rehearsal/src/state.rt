@@ -6,6 +6,7 @@ ghost use Rattle.rehearsal.specs.Changes.{Recorded, Put, Taken, Changed};
 ghost use Rattle.rehearsal.specs.Levels.{levels_of};
 
 use crate::given::Given;
+use crate::keys::draws;
 use crate::levels::Levels;
 use crate::numbers::Numbers;
 use crate::readable::Written;
@@ -71,7 +72,15 @@ impl Rehearsal {
         ensures { IfOk result (λ root. (root ≡ self.now.last + draws (content_in content.entry) leaf.levels) × Recorded leaf.levels leaf.place self.now.last (content_in content.entry) self.now.numbers.0 out.new.items) }
     {
         let mut room = vec![in self.heap; 0; ROOM]?;
-        let given = Given::new(self.heap, &self.numbers, leaf, content, self.last)?;
+        let count = draws(leaf.levels, &content);
+        let given = Given::new(
+            self.heap,
+            &self.numbers,
+            leaf.node(),
+            leaf.levels,
+            self.last,
+            count,
+        )?;
         let drawn = Drawn {
             keys: &given.keys.0,
             last: self.last,

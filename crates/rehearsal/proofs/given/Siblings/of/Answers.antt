@@ -1,4 +1,4 @@
-use Rattle.std.proofs.Common.{ℕ, ◌+◌, ◌^◌, map, get_or, None, vec_items, sym, ap, ◌∙◌, div-one, arith}
+use Rattle.std.proofs.Common.{ℕ, map, get_or, None, vec_items, sym, ap, ◌∙◌, div-one, arith}
 use Rattle.tree.specs.Nodes.{sibling_of}
 use Rattle.change.specs.Nodes.{key_in}
 use Rattle.rehearsal.specs.Siblings.{keyed}
@@ -8,12 +8,12 @@ use Rattle.rehearsal.proofs.given.Siblings.of.Goals as goal
 pub loop-h-init : goal.loop-h-init
 loop-h-init c =
     let begun = c.in_ok-nodes.ensures in
-    let start = 2 ^ c.args.leaf.levels + c.args.leaf.place in
-    (begun.len, begun.capacity, c.node-node.ensures ∙ sym (div-one start), no_sibling start c.args.numbers.now.0 (vec_items c.in_ok-nodes.nodes) begun.items)
+    let start = c.args.start.number in
+    (begun.len, begun.capacity, sym (div-one start), no_sibling start c.args.numbers.now.0 (vec_items c.in_ok-nodes.nodes) begun.items)
 
 pub loop-h-preserved : goal.loop-h-preserved
 loop-h-preserved c =
-    let start = 2 ^ c.args.leaf.levels + c.args.leaf.place in
+    let start = c.args.start.number in
     let way = c.loop-h.invariant.2 in (
       omega arith,
       omega arith,
