@@ -27,16 +27,6 @@ impl Standard {
     }
 }
 
-// The bytes from `at` on.
-fn mark_at(part: &[u8], at: usize) -> Mark
-    requires { at + 16 ≡ length part.now }
-    ensures { result.0 ≡ drop at part.now }
-{
-    let mut bytes = [0; 16];
-    bytes.copy_from_slice(&part[at..]);
-    Mark(bytes)
-}
-
 impl Sealing for Standard {
     ghost sealed = { standard };
 
@@ -47,9 +37,9 @@ impl Sealing for Standard {
     ghost apart = { λ key nonce marked one other h e. standard-apart key nonce marked one other e };
 
     fn seal(&mut self, key: &Key, nonce: &Nonce, marked: &[u8], part: &mut [u8]) {
-        let at = part.len() - 16;
-        let mark = aead::seal(key, nonce, marked, &mut part[0..at], &mut self.work).unwrap();
-        part[at..].copy_from_slice(&mark.0);
+        let (text, end) = part.split_last_chunk_mut::<16>().unwrap();
+        let mark = aead::seal(key, nonce, marked, text, &mut self.work).unwrap();
+        end.copy_from_slice(&mark.0);
     }
 
     fn open(
@@ -59,8 +49,8 @@ impl Sealing for Standard {
         marked: &[u8],
         part: &mut [u8],
     ) -> Result<(), DoesNotOpen> {
-        let at = part.len() - 16;
-        let mark = mark_at(part, at);
-        aead::open(key, nonce, marked, &mut part[0..at], &mark, &mut self.work)
+        let (text, end) = part.split_last_chunk_mut::<16>().unwrap();
+        let mark = Mark(*end);
+        aead::open(key, nonce, marked, text, &mark, &mut self.work)
     }
 }

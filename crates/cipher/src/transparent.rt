@@ -1,6 +1,6 @@
 // Sealing that hides nothing, for rehearsals in which keys are numbers of 16 bytes, with zeros after them: it opens under its own key and no other.
 ghost use Rattle.std.specs.Prelude.{◌≡◌, ℕ, ◌+◌, ◌-◌, ◌≤◌, List, ◌++◌, length, take, drop, Decides};
-ghost use Rattle.cipher.specs.Sealed.{transparent};
+ghost use Rattle.cipher.specs.Sealed.{transparent, text_of};
 ghost use Rattle.cipher.specs.Parts.{length-transparent, transparent-apart};
 
 use crate::sealing_trait::Sealing;
@@ -10,22 +10,21 @@ use sealing::opening::{DoesNotOpen, Nonce};
 #[derive(Clone, Copy)]
 pub struct Transparent;
 
-// Whether the 16 bytes from `at` on are the key's number.
-fn has_number(part: &[u8], at: usize, key: &[u8; 32]) -> bool
-    requires { at + 16 ≡ length part.now }
-    ensures { Decides result (drop at part.now ≡ take 16 key.now) }
+// Whether the last 16 bytes are the key's number.
+fn has_number(part: &[u8], key: &[u8; 32]) -> bool
+    requires { 16 ≤ length part.now }
+    ensures { Decides result (drop (length part.now - 16) part.now ≡ take 16 key.now) }
 {
-    let number = &part[at..];
-    let own = &key[0..16];
-    number == own
+    part.ends_with(&key[0..16])
 }
 
-// The key's number in the 16 bytes from `at` on.
-fn put_number(part: &mut [u8], at: usize, key: &[u8; 32])
-    requires { at + 16 ≡ length part.old }
-    ensures { part.new ≡ take at part.old ++ take 16 key.now }
+// The key's number in the last 16 bytes.
+fn put_number(part: &mut [u8], key: &[u8; 32])
+    requires { 16 ≤ length part.old }
+    ensures { part.new ≡ text_of part.old ++ take 16 key.now }
 {
-    part[at..].copy_from_slice(&key[0..16]);
+    let number = part.last_chunk_mut::<16>().unwrap();
+    number.copy_from_slice(&key[0..16]);
 }
 
 impl Sealing for Transparent {
@@ -39,8 +38,7 @@ impl Sealing for Transparent {
 
     #[tactic(auto, unfolding(crate::specs::Sealed::transparent))]
     fn seal(&mut self, key: &Key, nonce: &Nonce, marked: &[u8], part: &mut [u8]) {
-        let at = part.len() - 16;
-        put_number(part, at, key.as_bytes());
+        put_number(part, key.as_bytes());
     }
 
     fn open(
@@ -50,8 +48,7 @@ impl Sealing for Transparent {
         marked: &[u8],
         part: &mut [u8],
     ) -> Result<(), DoesNotOpen> {
-        let at = part.len() - 16;
-        if has_number(part, at, key.as_bytes()) {
+        if has_number(part, key.as_bytes()) {
             Ok(())
         } else {
             Err(DoesNotOpen)

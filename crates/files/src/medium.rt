@@ -45,6 +45,7 @@ impl FileMedium {
         requires { F.IsAlwaysCallable deed }
         ensures { self.new.trace ≡ self.old.trace }
     {
+        // That it failed is noted before the error is handed on, so `?` alone would not do.
         if self.failed || deed(&mut self.file).is_err() {
             self.failed = true;
             return Err(Fault);

@@ -8,6 +8,7 @@ use crate::moves::Move;
 #[derive(Drop)]
 pub struct Ledger {
     pub(crate) levels: u32,
+    // Numbers of puts, since these are what is printed.
     pub(crate) standing: Vec<Option<usize>>,
     pub(crate) seen: Vec<bool>,
     pub(crate) moves: Vec<Move>,

@@ -53,6 +53,7 @@ impl<T: KeyTree> Dialogue<T> {
         if word.starts_with(b"#") {
             return Ok(None);
         }
+        // Ends as the answer of a session does, with an error of another type.
         let answer = match self.carried_out(word, fields) {
             Ok(text) => text,
             Err(Failure::Malformed(malformed)) => malformed.to_string(self.heap)?,

@@ -22,6 +22,7 @@ pub fn answer_lines<T: KeyTree, R: BufRead, W: Write>(
 ) -> io::Result<()> {
     let mut dialogue = Dialogue::<T>::new(heap)?;
     let mut line = Vec::new(heap);
+    // A loop must have an end, and none is known of the input.
     for _ in 0..u64::MAX {
         line.clear();
         if input.read_until(b'\n', &mut line)? == 0 {

@@ -4,7 +4,7 @@ ghost use Rattle.devices.specs.Events.{appended, synced, held, Faithful, Left};
 ghost use Rattle.memory.specs.Stops.{is_faithful, Whole, Lasting};
 ghost use Rattle.memory.specs.Supplies.{is_on, stopping};
 
-use crate::power::{Power, Stop, Supply};
+use crate::power::{Power, Stop};
 use devices::fault::Fault;
 use devices::medium::Medium;
 use trace::trace::Trace;
@@ -100,9 +100,7 @@ impl Medium for MemoryMedium {
     }
 
     fn sync(&mut self) -> Result<(), Fault> {
-        let Supply::Full = self.power.spend() else {
-            return Err(Fault);
-        };
+        self.power.spend().full()?;
         self.lasting = self.bytes.len();
         self.trace = self.trace.synced();
         Ok(())
@@ -110,9 +108,7 @@ impl Medium for MemoryMedium {
 
     fn cut(&mut self, length: u64) -> Result<(), Fault> {
         self.trace = self.trace.cut(length);
-        let Supply::Full = self.power.spend() else {
-            return Err(Fault);
-        };
+        self.power.spend().full()?;
         let length = length as usize;
         self.bytes.truncate(length);
         self.lasting = self.lasting.min(length);

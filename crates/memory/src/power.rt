@@ -1,5 +1,5 @@
 // The power of a medium in memory, which goes off at a stop.
-ghost use Rattle.std.specs.Prelude.{◌≡◌, is_ok};
+ghost use Rattle.std.specs.Prelude.{◌≡◌, ◌≢◌, Ok, Err, is_ok};
 ghost use Rattle.memory.specs.Supplies.{Supplies, is_on, stopping, written};
 
 use devices::fault::Fault;
@@ -35,6 +35,16 @@ impl Supply {
             Supply::Full => count,
             Supply::Part(kept) => kept.min(count),
             Supply::Gone => 0,
+        }
+    }
+
+    // A fault, unless the operation is done.
+    pub(crate) fn full(self) -> Result<(), Fault>
+        ensures { elim result [ Ok _ ↦ self ≡ Supply.Full | Err _ ↦ self ≢ Supply.Full ] }
+    {
+        match self {
+            Supply::Full => Ok(()),
+            Supply::Part(_) | Supply::Gone => Err(Fault),
         }
     }
 }

@@ -57,7 +57,7 @@ impl Word for u64 {
     }
 }
 
-// The word that stands in the bytes from `at` on.
+// The word that stands in the bytes from `at` on. Callers read several words of one buffer, and their contracts say by the offset which bytes those are.
 pub fn word_at<W: Word>(bytes: &[u8], at: usize) -> W
     requires { at + W.WIDTH ≤ length bytes.now }
     ensures { W.number result ≡ le (take W.WIDTH (drop at bytes.now)) }

@@ -10,6 +10,7 @@ use ledger::answer::Verdict;
 use ledger::book::Ledger;
 use memory::medium::MemoryMedium;
 use records::decode::decode;
+use rehearsal::keys::draws;
 use rehearsal::levels::Levels;
 use rehearsal::readable::Written;
 use std::alloc::{AllocError, Global};
@@ -27,7 +28,7 @@ pub enum Stop {
     Chip,
 }
 
-// What became of a change that was not refused; the number of the chip's key then.
+// What became of a change that was not refused; the number of the chip's key then. No Result: a stop was asked for, and is no error.
 #[derive(Clone, Copy)]
 pub enum Outcome {
     Made(u32),
@@ -164,7 +165,7 @@ impl Play {
     fn change(&mut self, deed: Deed) -> Result<Outcome, Failure> {
         let drawn = self
             .drawn
-            .checked_add(deed.draws(self.levels.count()))
+            .checked_add(draws(self.levels.count(), &deed.content))
             .ok_or(Failure::Refused(Refusal::NumbersSpent))?;
         let (bytes, root) = self.try_change(&deed)?;
         let stop = self.stop.take();

@@ -4,7 +4,7 @@ use cipher::transparent::Transparent;
 use descent::failure::Failure;
 use memory::chip::MemoryChip;
 use memory::medium::MemoryMedium;
-use rehearsal::keys::{draw, let_go};
+use rehearsal::keys::{Keys, draws};
 use rehearsal::levels::Levels;
 use std::alloc::Global;
 use storage::state::Store;
@@ -20,14 +20,12 @@ fn empty_store(heap: Global, levels: Levels, medium: MemoryMedium) -> Result<Sma
 
 // Makes a change in a store, with the keys that it drew.
 pub fn change(heap: Global, levels: Levels, store: &mut Small, deed: &Deed) -> Result<(), Failure> {
-    let count = deed.draws(levels.count());
-    let mut keys = draw(heap, deed.drawn, count)?;
-    let answer = match &deed.content {
-        Some(content) => store.put(deed.place, content, &mut keys),
-        None => store.take_out(deed.place, &mut keys),
-    };
-    let_go(keys);
-    answer
+    let count = draws(levels.count(), &deed.content);
+    let mut keys = Keys::draw(heap, deed.drawn, count)?;
+    match &deed.content {
+        Some(content) => store.put(deed.place, content, &mut keys.0),
+        None => store.take_out(deed.place, &mut keys.0),
+    }
 }
 
 // The store after changes, over a medium that was empty.

@@ -1,3 +1,4 @@
 pub mod Drawing
 pub mod Climbing
 pub mod Recording
+pub mod Turning

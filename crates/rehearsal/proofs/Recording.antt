@@ -1,5 +1,6 @@
 -- The records of a change that is made with the keys after the last number and with the siblings along the path.
-use Rattle.std.proofs.Common.{◌≡◌, ℕ, ◌+◌, ◌/◌, ◌^◌, List, [], ◌∷◌, ◌++◌, map, get_or, None, Option, ap, ◌∙◌, pow-suc, add-one}
+use Rattle.std.specs.Borrow.{Bor}
+use Rattle.std.proofs.Common.{◌≡◌, ℕ, ◌+◌, ◌/◌, ◌^◌, List, [], ◌∷◌, ◌++◌, map, get_or, Some, None, Ok, Err, Option, Result, IfOk, refl, ap, ◌∙◌, pow-suc, add-one}
 use mathlib.Core.List.{map-append}
 use native.Mathlib.Nat.{div-div-eq-div-mul}
 use Rattle.cipher.specs.Sealed.{transparent}
@@ -9,9 +10,10 @@ use Rattle.forgetting.specs.Change.{records, single, draws, counted, Numbered}
 use Rattle.forgetting.specs.History.{root}
 use Rattle.tree.specs.Nodes.{sibling_of}
 use Rattle.change.specs.declared.node.NodeKey.{NodeKey}
+use Rattle.change.specs.declared.failure.Failure.{Failure}
 use Rattle.change.specs.Coded.{bytes_of}
-use Rattle.change.specs.Nodes.{key_in, bytes_in}
-use Rattle.change.specs.Outcome.{Siblings}
+use Rattle.change.specs.Nodes.{key_in, bytes_in, content_in}
+use Rattle.change.specs.Outcome.{Siblings, Writes}
 use Rattle.rehearsal.specs.Keys.{keys_after}
 use Rattle.rehearsal.specs.Siblings.{keyed, siblings_of}
 use Rattle.rehearsal.specs.Changes.{Recorded}
@@ -37,3 +39,17 @@ recorded levels place last w keys nodes numbers before after drawn siblings none
     let told : List ℕ → List (List ℕ) → List ℕ = λ front ks. front ++ bytes_of transparent levels (records (last + 1) (root levels) (single w (counted w last (λ j. get_or ks j [])) levels place) t) in
     let at : after ≡ told before (map (λ (k : Key). k.bytes) keys) = writes t (λ h less. ap (λ (ns : List (Option Numbered)). get_or ns h None) siblings ∙ same h less) in
     at ∙ ap (λ (front : List ℕ). told front (map (λ (k : Key). k.bytes) keys)) none ∙ ap (told []) drawn
+
+-- What a change that was made with them writes.
+pub if_recorded : (levels place last : ℕ) (w : Option (List ℕ)) (keys : List Key) (nodes : List (Option NodeKey)) (numbers : List (Option ℕ)) (before after : List ℕ) (result : Result ℕ Failure)
+    → map (λ (k : Key). k.bytes) keys ≡ keys_after last (draws w levels) → map key_in nodes ≡ siblings_of (2 ^ levels + place) numbers levels → before ≡ []
+    → Writes transparent levels place w keys last nodes before result after
+    → IfOk result (λ root. (root ≡ last + draws w levels) × Recorded levels place last w numbers after)
+if_recorded levels place last w keys nodes numbers before after (Ok root) drawn siblings none writes =
+    (writes.1, recorded levels place last w keys nodes numbers before after drawn siblings none writes.2)
+if_recorded levels place last w keys nodes numbers before after (Err why) drawn siblings none writes = tt
+
+-- As many keys for a content that is lent as for its bytes.
+pub draws_lent : (w : Option (Bor (List ℕ))) (levels : ℕ) → draws w levels ≡ draws (content_in w) levels
+draws_lent None levels = refl
+draws_lent (Some content) levels = refl

@@ -41,3 +41,8 @@ abbrev pub Taken : (place : ℕ) → Rehearsal → Result ℕ Failure → Rehear
 Taken place before (Ok root) after =
     Turned place None before.last before root after × Recorded (levels_of before.levels) place before.last None before.numbers.0 (vec_items after.bytes)
 Taken place before (Err why) after = after ≡ before
+
+-- A put where there is a content, and a taking out where there is none.
+abbrev pub Changed : (place : ℕ) → Option (List ℕ) → Rehearsal → Result ℕ Failure → Rehearsal → Type 0
+Changed place (Some content) = Put place content
+Changed place None = Taken place

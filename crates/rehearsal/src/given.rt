@@ -5,19 +5,28 @@ ghost use Rattle.rehearsal.specs.Siblings.{keyed, siblings_of};
 ghost use Rattle.rehearsal.specs.Keys.{keys_after};
 ghost use Rattle.sealing.specs.declared.key.Key.{Key as Secret};
 
-use crate::keys;
-use crate::keys::key_of;
+use crate::keys::{Keys, key_of};
 use crate::numbers::Numbers;
 use change::node;
 use change::node::NodeKey;
-use sealing::key::Key;
 use std::alloc::{AllocError, Global};
 use tree::node::NodeId;
 
-// The keys that it draws, and the siblings along the path, from the place up.
+// The siblings along a path, from the place up; their keys are wiped when they are let go.
+pub struct Siblings(pub Vec<Option<NodeKey>>);
+
+impl Drop for Siblings {
+    fn drop(self) {
+        let Siblings(nodes) = self;
+        node::let_go(nodes);
+    }
+}
+
+// The keys that it draws, and the siblings along the path.
+#[derive(Drop)]
 pub struct Given {
-    pub keys: Vec<Key>,
-    pub siblings: Vec<Option<NodeKey>>,
+    pub keys: Keys,
+    pub siblings: Siblings,
 }
 
 // The key of that number, as far as there is one.
@@ -31,22 +40,24 @@ fn node_of(number: Option<u32>) -> Option<NodeKey>
     })
 }
 
-// The siblings along the path from a node up.
-fn siblings(
-    heap: Global,
-    numbers: &Numbers,
-    start: NodeId,
-    levels: u32,
-) -> Result<Vec<Option<NodeKey>>, AllocError>
-    ensures { IfOk result (λ nodes. (vec_len nodes ≡ levels) × (map key_in nodes.items ≡ siblings_of start.number numbers.now.0 levels)) }
-{
-    let mut nodes = Vec::with_capacity(heap, levels as usize)?;
-    let mut node = start;
-    for _h in 0..levels {
-        nodes.push_reserved(node_of(numbers.of(node.sibling())));
-        node = node.parent();
+impl Siblings {
+    // The siblings along the path from a node up.
+    fn of(
+        heap: Global,
+        numbers: &Numbers,
+        start: NodeId,
+        levels: u32,
+    ) -> Result<Siblings, AllocError>
+        ensures { IfOk result (λ siblings. (vec_len siblings.0 ≡ levels) × (map key_in siblings.0.items ≡ siblings_of start.number numbers.now.0 levels)) }
+    {
+        let mut nodes = Vec::with_capacity(heap, levels as usize)?;
+        let mut node = start;
+        for _h in 0..levels {
+            nodes.push_reserved(node_of(numbers.of(node.sibling())));
+            node = node.parent();
+        }
+        Ok(Siblings(nodes))
     }
-    Ok(nodes)
 }
 
 impl Given {
@@ -59,22 +70,10 @@ impl Given {
         last: u32,
         count: u32,
     ) -> Result<Given, AllocError>
-        ensures { IfOk result (λ given. (vec_len given.siblings ≡ levels) × (map key_in given.siblings.items ≡ siblings_of start.number numbers.now.0 levels) × (map (λ (k : Secret). k.bytes) given.keys.items ≡ keys_after last count)) }
+        ensures { IfOk result (λ given. (vec_len given.siblings.0 ≡ levels) × (map key_in given.siblings.0.items ≡ siblings_of start.number numbers.now.0 levels) × (map (λ (k : Secret). k.bytes) given.keys.0.items ≡ keys_after last count)) }
     {
-        let siblings = siblings(heap, numbers, start, levels)?;
-        match keys::draw(heap, last, count) {
-            Ok(keys) => Ok(Given { keys, siblings }),
-            Err(error) => {
-                node::let_go(siblings);
-                Err(error)
-            }
-        }
-    }
-
-    // Wipes every key.
-    pub fn wipe(self) {
-        let Given { keys, siblings } = self;
-        keys::let_go(keys);
-        node::let_go(siblings);
+        let siblings = Siblings::of(heap, numbers, start, levels)?;
+        let keys = Keys::draw(heap, last, count)?;
+        Ok(Given { keys, siblings })
     }
 }

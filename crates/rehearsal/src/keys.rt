@@ -1,5 +1,6 @@
 // Numbers for keys.
-ghost use Rattle.std.specs.Prelude.{◌≡◌, ℕ, ◌+◌, ◌^◌, ◌<◌, List, map, IfOk, vec_len};
+ghost use Rattle.std.specs.Prelude.{◌≡◌, ℕ, ◌+◌, ◌^◌, ◌<◌, ◌≤◌, List, map, IfOk, vec_len};
+ghost use Rattle.forgetting.specs.Change.{draws};
 ghost use Rattle.rehearsal.specs.Keys.{key_of, keys_after};
 ghost use Rattle.sealing.specs.declared.key.Key.{Key as Secret};
 
@@ -18,22 +19,41 @@ pub fn key_of(number: u64) -> Key
     Key::take(&mut bytes)
 }
 
-// So many keys, counted on from the last number.
-pub fn draw(heap: Global, last: u32, count: u32) -> Result<Vec<Key>, AllocError>
-    ensures { IfOk result (λ keys. map (λ (k : Secret). k.bytes) keys.items ≡ keys_after last count) }
+// How many keys a change draws: one for each node above the place, and one for its own node where a content is put in. The one of `change` is private to it, and takes borrowed bytes alone.
+pub fn draws<T>(levels: u32, content: &Option<T>) -> u32
+    requires { levels ≤ 20 }
+    ensures { result ≡ draws content.now levels }
 {
-    let mut keys = Vec::with_capacity(heap, count as usize)?;
-    let first = u64::from(last) + 1;
-    for number in first..first + u64::from(count) {
-        keys.push_reserved(key_of(number));
+    match content {
+        Some(_) => levels + 1,
+        None => levels,
     }
-    Ok(keys)
 }
 
-// Wipes the keys and lets them go.
-pub fn let_go(mut keys: Vec<Key>) {
-    while let Some(mut key) = keys.pop() {
-        key.wipe();
+// Keys that are wiped when they are let go.
+pub struct Keys(pub Vec<Key>);
+
+impl Drop for Keys {
+    fn drop(self) {
+        let Keys(mut keys) = self;
+        // By hand: a key can be let go only where it is proved to be wiped.
+        while let Some(mut key) = keys.pop() {
+            key.wipe();
+        }
+        keys.destroy_empty();
     }
-    keys.destroy_empty();
+}
+
+impl Keys {
+    // So many keys, counted on from the last number.
+    pub fn draw(heap: Global, last: u32, count: u32) -> Result<Keys, AllocError>
+        ensures { IfOk result (λ keys. map (λ (k : Secret). k.bytes) keys.0.items ≡ keys_after last count) }
+    {
+        let mut keys = Vec::with_capacity(heap, count as usize)?;
+        let first = u64::from(last) + 1;
+        for number in first..first + u64::from(count) {
+            keys.push_reserved(key_of(number));
+        }
+        Ok(Keys(keys))
+    }
 }

@@ -2,10 +2,11 @@
 ghost use Rattle.std.specs.Prelude.{◌≡◌, ◌+◌, ◌^◌, ◌<◌, ◌≤◌, [], replicate, IfOk, Some, None};
 ghost use Rattle.forgetting.specs.Change.{draws};
 ghost use Rattle.change.specs.Nodes.{content_in};
-ghost use Rattle.rehearsal.specs.Changes.{Recorded, Put, Taken};
+ghost use Rattle.rehearsal.specs.Changes.{Recorded, Put, Taken, Changed};
 ghost use Rattle.rehearsal.specs.Levels.{levels_of};
 
 use crate::given::Given;
+use crate::keys::draws;
 use crate::levels::Levels;
 use crate::numbers::Numbers;
 use crate::readable::Written;
@@ -16,8 +17,7 @@ use change::path::Path;
 use cipher::transparent::Transparent;
 use std::alloc::Global;
 use tree::answer::Refusal;
-use tree::node::NodeId;
-use tree::numbers::place_node;
+use tree::leaf::Leaf;
 
 // The bytes of a sealed key with its mark, and the most of a sealed content.
 const PART: usize = 48;
@@ -32,15 +32,6 @@ pub struct Rehearsal {
     last: u32,
     numbers: Numbers,
     bytes: Vec<u8>,
-}
-
-// The node of a place.
-fn leaf(levels: u32, place: u32) -> Result<NodeId, Failure>
-    requires { levels ≤ 3 }
-    ensures { IfOk result (λ node. (node.number ≡ 2 ^ levels + place) × (node.number < 16)) }
-{
-    let node = place_node(levels, place).ok_or(Refusal::NoSuchPlace)?;
-    Ok(node)
 }
 
 impl Rehearsal {
@@ -75,34 +66,31 @@ impl Rehearsal {
         &self.bytes
     }
 
-    // The records of a change at the end of a buffer, with so many keys, and the number of the root's new key.
-    fn write(
-        &self,
-        levels: u32,
-        place: u32,
-        node: NodeId,
-        content: Option<&[u8]>,
-        count: u32,
-        out: &mut Vec<u8>,
-    ) -> Result<u32, Failure>
-        requires few { levels ≤ 3 }
-        requires node { node.number ≡ 2 ^ levels + place }
-        requires count { count ≡ draws (content_in content) levels }
-        requires empty { out.old.items ≡ [] }
-        ensures { IfOk result (λ root. (root ≡ self.now.last + count) × Recorded levels place self.now.last (content_in content.entry) self.now.numbers.0 out.new.items) }
+    // The records of a change at the end of a buffer, and the number of the root's new key.
+    fn write(&self, leaf: Leaf, content: Option<&[u8]>, out: &mut Vec<u8>) -> Result<u32, Failure>
+        requires { out.old.items ≡ [] }
+        ensures { IfOk result (λ root. (root ≡ self.now.last + draws (content_in content.entry) leaf.levels) × Recorded leaf.levels leaf.place self.now.last (content_in content.entry) self.now.numbers.0 out.new.items) }
     {
         let mut room = vec![in self.heap; 0; ROOM]?;
-        let given = Given::new(self.heap, &self.numbers, node, levels, self.last, count)?;
+        let count = draws(leaf.levels, &content);
+        let given = Given::new(
+            self.heap,
+            &self.numbers,
+            leaf.node(),
+            leaf.levels,
+            self.last,
+            count,
+        )?;
         let drawn = Drawn {
-            keys: &given.keys,
+            keys: &given.keys.0,
             last: self.last,
         };
         let path = Path {
-            levels,
-            place,
-            siblings: &given.siblings,
+            levels: leaf.levels,
+            place: leaf.place,
+            siblings: &given.siblings.0,
         };
-        let root = change(
+        change(
             &mut Transparent,
             path,
             content,
@@ -110,39 +98,36 @@ impl Rehearsal {
             &mut [0; PART],
             &mut room,
             out,
-        );
-        given.wipe();
-        Ok(root?)
+        )
+    }
+
+    // Puts a content in a place, or takes out what it holds: the number of the root's new key.
+    fn change(&mut self, place: u32, content: Option<&[u8]>) -> Result<u32, Failure>
+        ensures { Changed place (content_in content.entry) self.old result self.new }
+    {
+        let leaf = Leaf::new(self.levels.count(), place).ok_or(Refusal::NoSuchPlace)?;
+        let mut out = Vec::new(self.heap);
+        let root = self.write(leaf, content, &mut out)?;
+        // The last number before those of the nodes above; where something was put in, the place's node has it.
+        let number = root - leaf.levels;
+        self.numbers.give(leaf.node(), content.and(Some(number)));
+        self.numbers.climb(leaf.node(), leaf.levels, number);
+        self.last = root;
+        self.bytes = out;
+        Ok(root)
     }
 
     // Puts a content in a place: the number of the root's new key.
     pub fn put(&mut self, place: u32, content: &[u8]) -> Result<u32, Failure>
         ensures { Put place content.now self.old result self.new }
     {
-        let levels = self.levels.count();
-        let node = leaf(levels, place)?;
-        let mut out = Vec::new(self.heap);
-        let root = self.write(levels, place, node, Some(content), levels + 1, &mut out)?;
-        let number = self.last + 1;
-        self.numbers.give(node, Some(number));
-        self.numbers.climb(node, levels, number);
-        self.last = root;
-        self.bytes = out;
-        Ok(root)
+        self.change(place, Some(content))
     }
 
     // Takes out what a place holds, or nothing: the same.
     pub fn take_out(&mut self, place: u32) -> Result<u32, Failure>
         ensures { Taken place self.old result self.new }
     {
-        let levels = self.levels.count();
-        let node = leaf(levels, place)?;
-        let mut out = Vec::new(self.heap);
-        let root = self.write(levels, place, node, None, levels, &mut out)?;
-        self.numbers.give(node, None);
-        self.numbers.climb(node, levels, self.last);
-        self.last = root;
-        self.bytes = out;
-        Ok(root)
+        self.change(place, None)
     }
 }

@@ -58,6 +58,7 @@ impl Text {
     fn parse(heap: Global, called: Field, fields: &[&[u8]]) -> Result<Text, Failure>
         ensures { (make : List ℕ → List ℕ → List ℕ → List ℕ → Task) → Reads (made make) result (parts_from make called (map (λ w. w.now) fields.now)) }
     {
+        // As one function for every count of fields, the pattern is not covered by the borrow checker.
         let [key, nonce, marked, text] = fields else {
             return Err(miscounted(4));
         };

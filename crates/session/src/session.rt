@@ -29,6 +29,7 @@ pub struct Session {
 fn key_bytes(heap: Global, word: &[u8]) -> Result<Option<Vec<u8>>, AllocError>
     ensures { IfOk result (λ key. IfSome key (λ bytes. vec_len bytes ≡ 32)) }
 {
+    // `?` hands on an error and not a None, where the result is a Result of an Option.
     let Some(mut bytes) = hex_text::decode(heap, word)? else {
         return Ok(None);
     };
@@ -126,6 +127,7 @@ impl Session {
             [b"read", place] => self.read(place),
             _ => Err(Undone::Malformed("chance KEY.., put PLACE HEX, out PLACE or read PLACE")),
         };
+        // Ends as the answer of the line language does, with an error of another type.
         let text = match answer {
             Ok(text) => text,
             Err(Undone::Memory) => return Err(AllocError),

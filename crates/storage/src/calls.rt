@@ -11,7 +11,6 @@ ghost use Rattle.storage.specs.Answers.{stopped, reading_of, read_answer};
 ghost use Rattle.index.specs.Noted.{rows_of};
 ghost use Rattle.index.specs.Rows.{content_row};
 
-use crate::seat::Condition;
 use crate::state::Store;
 use change::check::can_hold;
 use change::keys::Drawn;
@@ -58,9 +57,7 @@ impl<S: Sealing, M: Medium, C: Chip> Store<S, M, C> {
         ensures halted { chip_in C.holds self.old.seat ≡ None → reading_of result buffer.new ≡ stopped }
         ensures answer { OfStanding S.sealed self.old.levels (rows_of self.old.index) self.old.end (chip_in C.holds self.old.seat) (M.log self.old.source.medium) (M.log self.new.source.medium) (λ t. Answers (reading_of result buffer.new) (read_answer self.old.levels place (length buffer.old) t)) }
     {
-        let Condition::Ready = self.seat.condition else {
-            return Err(Failure::Stopped);
-        };
+        self.seat.ready()?;
         let leaf = find_content(&self.index, self.levels, place, buffer.len())?;
         self.work.read(
             &mut self.source,
@@ -81,9 +78,7 @@ impl<S: Sealing, M: Medium, C: Chip> Store<S, M, C> {
         ensures levels { self.new.levels ≡ self.old.levels }
         ensures changes { Changes S.sealed self.old.levels place (content_in content.entry) (state_of M.log C.holds C.given self.old keys.old) result (state_of M.log C.holds C.given self.new keys.new) }
     {
-        let Condition::Ready = self.seat.condition else {
-            return Err(Failure::Stopped);
-        };
+        self.seat.ready()?;
         let leaf = find(self.levels, place, content)?;
         let last = self.seat.chip.number();
         self.records.clear();

@@ -31,9 +31,7 @@ fn turn_chip<M: Medium, C: Chip>(
 ) -> Result<(), Failure>
     ensures { Turns C.holds C.given (given_now number key.now.bytes (M.log medium.now)) seat.old result seat.new }
 {
-    let Condition::Ready = seat.condition else {
-        return Err(Failure::Stopped);
-    };
+    seat.ready()?;
     // The seat is told, too, so `?` alone would not do.
     if seat.chip.replace(key, number, medium).is_err() {
         seat.condition = Condition::Halted;
@@ -63,7 +61,7 @@ pub(crate) fn commit<M: Medium, C: Chip>(
 const MOST: u64 = 1 << 62;
 
 impl<S, M: Medium, C: Chip> Store<S, M, C> {
-    // Makes a change last whose records are written, with key `i` for the chip, wipes all keys, and notes what was written.
+    // Makes a change last whose records are written, with key `i` for the chip, wipes all keys, and notes what was written. With `number` alone, the chip would have to be asked for its last number once more.
     pub(crate) fn finish(&mut self, keys: &mut [Key], i: usize, number: u32) -> Result<(), Failure>
         requires { i < length keys.old }
         ensures levels { self.new.levels ≡ self.old.levels }

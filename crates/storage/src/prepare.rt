@@ -6,6 +6,7 @@ ghost use Rattle.index.specs.Noted.{rows_of};
 ghost use Rattle.descent.specs.Path.{OfShown};
 ghost use Rattle.storage.specs.Prepares.{Decides, Prepares};
 
+use crate::wipe::clear_opened;
 use crate::work::Work;
 use change::change::change;
 use change::keys::Drawn;
@@ -19,7 +20,7 @@ use index::Index;
 use sealing::key::Key;
 use tree::leaf::Leaf;
 
-// The records of a change at the end of a buffer, with the siblings along the path opened first, from the root's key down.
+// The records of a change at the end of a buffer, with the siblings along the path opened first, from the root's key down. The working memory is lent field by field, since the key, the part and the room are borrowed at once beside the siblings.
 fn collect_and_write<S: Sealing, M: Medium>(
     source: &mut Source<S, M>,
     index: &Index,
@@ -83,9 +84,7 @@ impl Work {
             &mut self.siblings,
             out,
         );
-        self.key.wipe();
-        self.part = [0; 48];
-        octets::wipe(&mut self.room);
+        clear_opened(&mut self.key, &mut self.part, &mut self.room);
         clear_all(&mut self.siblings);
         written
     }

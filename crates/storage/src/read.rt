@@ -9,6 +9,7 @@ ghost use Rattle.descent.specs.Path.{OfShown};
 ghost use Rattle.storage.specs.Answers.{reading_of, read_answer};
 ghost use Rattle.storage.specs.Reads.{Reads, CopiesOut, Fills, Answers};
 
+use crate::wipe::clear_opened;
 use crate::work::Work;
 use cipher::sealing_trait::Sealing;
 use descent::failure::Failure;
@@ -98,9 +99,7 @@ impl Work {
             &mut self.room,
         );
         let reading = copy_out(read, &self.room, buffer);
-        self.key.wipe();
-        self.part = [0; 48];
-        octets::wipe(&mut self.room);
+        clear_opened(&mut self.key, &mut self.part, &mut self.room);
         reading
     }
 }

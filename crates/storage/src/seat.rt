@@ -1,4 +1,7 @@
 // The chip's seat in the store.
+ghost use Rattle.std.specs.Prelude.{◌≡◌, Ok, Err};
+
+use descent::failure::Failure;
 
 #[derive(Clone, Copy, PartialEq, Eq, Debug)]
 pub enum Condition {
@@ -12,4 +15,16 @@ pub enum Condition {
 pub struct Seat<C> {
     pub chip: C,
     pub condition: Condition,
+}
+
+impl<C> Seat<C> {
+    // Stopped, unless the chip can be used.
+    pub(crate) fn ready(&self) -> Result<(), Failure>
+        ensures { elim result [ Ok _ ↦ self.now.condition ≡ Condition.Ready | Err why ↦ (self.now.condition ≡ Condition.Halted) × (why ≡ Failure.Stopped) ] }
+    {
+        match self.condition {
+            Condition::Ready => Ok(()),
+            Condition::Halted => Err(Failure::Stopped),
+        }
+    }
 }

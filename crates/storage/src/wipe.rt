@@ -23,6 +23,17 @@ fn blank_nodes(heap: Global, count: u32) -> Result<Vec<Option<NodeKey>>, AllocEr
     Ok(nodes)
 }
 
+// Clears what a call opened. The fields are handed in, since no method of Work can be called before they are clear.
+pub(crate) fn clear_opened(key: &mut Key, part: &mut [u8; 48], room: &mut [u8])
+    ensures key { key.new.bytes ≡ replicate 32 0 }
+    ensures part { part.new ≡ replicate 48 0 }
+    ensures room { room.new ≡ replicate (length room.old) 0 }
+{
+    key.wipe();
+    *part = [0; 48];
+    octets::wipe(room);
+}
+
 impl Work {
     // For a tree of so many levels.
     pub(crate) fn new(heap: Global, levels: u32) -> Result<Work, AllocError>

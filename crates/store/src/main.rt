@@ -20,6 +20,7 @@ fn read_byte(input: &mut impl Read) -> io::Result<Option<u8>> {
 // The next line in place of what stands in a buffer, without its line feed; none at the end of the input. It is read a byte at a time, so that no buffer but this one has what stands in it.
 fn read_line<'a>(input: &mut impl Read, line: &'a mut Vec<u8>) -> io::Result<Option<&'a mut [u8]>> {
     line.clear();
+    // A loop must have an end, and none is known of the input.
     for _ in 0..u64::MAX {
         match read_byte(input)? {
             None if line.is_empty() => return Ok(None),

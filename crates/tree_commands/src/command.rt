@@ -39,6 +39,7 @@ pub(crate) fn nothing(fields: &[&[u8]]) -> Result<(), Failure> {
 
 // The one field of a command.
 pub(crate) fn place_of(fields: &[&[u8]]) -> Result<u32, Failure> {
+    // As one function for every count of fields, the pattern is not covered by the borrow checker.
     let [place] = fields else {
         return Err(miscounted(1));
     };

@@ -24,7 +24,7 @@ returns-in_err-number g c =
     let at = c.in_ok-leaf.ensures in
     let self = c.args.self.now in
     let chip : Numbered = g.C.Chip.holds self.seat.chip in
-    let is : chip_in g.C.Chip.holds self.seat ≡ Some chip = ready g.C.Chip.holds self.seat c.in-Ready.is in
+    let is : chip_in g.C.Chip.holds self.seat ≡ Some chip = ready g.C.Chip.holds self.seat c.in_ok-ready.ensures in
     let log = g.M.Medium.log c.prepare.new.source.medium in
     let before : State = state_of g.M.Medium.log g.C.Chip.holds g.C.Chip.given self c.args.keys.now in
     let after : State = record { log = log; rows = rows_of self.index; end = self.end; chip = chip_in g.C.Chip.holds self.seat; given = given_in g.C.Chip.given self.seat; keys = c.args.keys.now } in
@@ -39,7 +39,7 @@ returns g c =
     let leaf = c.in_ok-leaf.leaf in
     let self = c.args.self.now in
     let chip : Numbered = g.C.Chip.holds self.seat.chip in
-    let is : chip_in g.C.Chip.holds self.seat ≡ Some chip = ready g.C.Chip.holds self.seat c.in-Ready.is in
+    let is : chip_in g.C.Chip.holds self.seat ≡ Some chip = ready g.C.Chip.holds self.seat c.in_ok-ready.ensures in
     let before : State = state_of g.M.Medium.log g.C.Chip.holds g.C.Chip.given self c.args.keys.now in
     let middle = g.M.Medium.log c.prepare.new.source.medium in
     let after : State = state_of g.M.Medium.log g.C.Chip.holds g.C.Chip.given c.finish.new.self c.finish.new.keys in

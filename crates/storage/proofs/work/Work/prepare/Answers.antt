@@ -12,15 +12,15 @@ pub invariant_of-self : goal.invariant_of-self
 invariant_of-self g c =
     let v = c.args.self.now.room in
     let long : v.len ≡ 4112 = v.ok.0 ∙ ap length c.args.self.now.empty ∙ length-replicate {A = ℕ} 4112 0 in
-    let W = c.wipe-2.new.buffer in
-    let lW : length W ≡ v.len = c.wipe-2.auto.buffer ∙ c.deref_mut-3.ensures.len in
+    let W = c.clear_opened.new.room in
+    let lW : length W ≡ v.len = c.clear_opened.auto.room ∙ c.deref_mut-3.ensures.len in
     let lD : length c.deref_mut-3.result.now ≡ 4112 = c.deref_mut-3.ensures.len ∙ long in
     let room = with_items_is (with_items v c.collect_and_write-written.new.room) W lW in
     let x = c.args.self.now.siblings in
     let N = c.clear_all.new.nodes in
     let lN : length N ≡ x.len = c.clear_all.auto.nodes ∙ c.deref_mut-4.ensures.len in
     let beside = with_items_is (with_items x c.collect_and_write-written.new.siblings) N lN in
-    record { wiped = c.wipe.ensures; blank = refl; empty = room ∙ c.wipe-2.ensures ∙ ap (λ n. replicate n 0) lD; keyless = λ h. ap (λ ns. is_some (sibling_in ns h)) beside ∙ c.clear_all.ensures h }
+    record { wiped = c.clear_opened.ensures.key; blank = c.clear_opened.ensures.part; empty = room ∙ c.clear_opened.ensures.room ∙ ap (λ n. replicate n 0) lD; keyless = λ h. ap (λ ns. is_some (sibling_in ns h)) beside ∙ c.clear_all.ensures h }
 
 pub returns : goal.returns
 returns g c =

@@ -13,10 +13,10 @@ pub invariant_of-self : goal.invariant_of-self
 invariant_of-self g c =
     let v = c.args.self.now.room in
     let long : v.len ≡ 4112 = v.ok.0 ∙ ap length c.args.self.now.empty ∙ length-replicate {A = ℕ} 4112 0 in
-    let W = c.wipe-2.new.buffer in
-    let lW : length W ≡ v.len = c.wipe-2.auto.buffer ∙ c.deref_mut-2.ensures.len in
+    let W = c.clear_opened.new.room in
+    let lW : length W ≡ v.len = c.clear_opened.auto.room ∙ c.deref_mut-2.ensures.len in
     let lD : length c.deref_mut-2.result.now ≡ 4112 = c.deref_mut-2.ensures.len ∙ long in
-    record { wiped = c.wipe.ensures; blank = refl; empty = with_items_is (with_items v c.read_place-read.new.room) W lW ∙ c.wipe-2.ensures ∙ ap (λ n. replicate n 0) lD; keyless = c.args.self.now.keyless }
+    record { wiped = c.clear_opened.ensures.key; blank = c.clear_opened.ensures.part; empty = with_items_is (with_items v c.read_place-read.new.room) W lW ∙ c.clear_opened.ensures.room ∙ ap (λ n. replicate n 0) lD; keyless = c.args.self.now.keyless }
 
 pub returns : goal.returns
 returns g c =

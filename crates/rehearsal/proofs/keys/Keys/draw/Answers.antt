@@ -2,7 +2,7 @@ use Rattle.std.proofs.Common.{◌≡◌, ℕ, ◌+◌, map, vec_items, vec_len, 
 use Rattle.sealing.specs.declared.key.Key.{Key}
 use Rattle.rehearsal.specs.Keys.{key_of, keys_after}
 use Rattle.rehearsal.proofs.Drawing.{none_drawn, one_more}
-use Rattle.rehearsal.proofs.keys.draw.Goals as goal
+use Rattle.rehearsal.proofs.keys.Keys.draw.Goals as goal
 
 pub loop-number-init : goal.loop-number-init
 loop-number-init c =

@@ -1,7 +1,7 @@
 use Rattle.std.proofs.Common.{◌≡◌, ◌+◌, ◌≤◌, map, vec_items, vec_len, vec_capacity}
 use Rattle.sealing.specs.declared.key.Key.{Key}
 use Rattle.rehearsal.specs.Keys.{keys_after}
-use Rattle.rehearsal.proofs.keys.draw.Given as goal
+use Rattle.rehearsal.proofs.keys.Keys.draw.Given as goal
 
 abbrev pub invariant-loop-number : goal.invariant-loop-number
 invariant-loop-number l =
