@@ -71,7 +71,9 @@ impl Rehearsal {
         requires { out.old.items ≡ [] }
         ensures { IfOk result (λ root. (root ≡ self.now.last + draws (content_in content.entry) leaf.levels) × Recorded leaf.levels leaf.place self.now.last (content_in content.entry) self.now.numbers.0 out.new.items) }
     {
-        let mut room = vec![in self.heap; 0; ROOM]?;
+        // A taking out seals no content, so it needs no room for one.
+        let size = if content.is_some() { ROOM } else { 0 };
+        let mut room = vec![in self.heap; 0; size]?;
         let count = draws(leaf.levels, &content);
         let given = Given::new(
             self.heap,
