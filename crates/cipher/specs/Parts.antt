@@ -2,11 +2,24 @@
 use Rattle.std.specs.Prelude.{◌≡◌, ℕ, ◌+◌, ◌-◌, ◌≤◌, List, ◌++◌, length, take, drop, ◌≢◌, Ok, Err, Result, refl}
 use Rattle.std.proofs.Math.Path.{sym, ap}
 use Rattle.std.proofs.Common.{◌∙◌, arith}
-use Rattle.std.proofs.lemmas.List.{append_cancel_right, take_at, drop_at, length-append, length-take-le, length-drop, take-append-drop}
+use borrow.Rule.Slice.PartMut.{put_mid}
+use Rattle.std.proofs.lemmas.List.{append_cancel_right, take_at, drop_at, drop_all, append-nil, length-append, length-take-le, length-drop, take-append-drop}
 use Rattle.sealing.specs.Aead.{ciphertext, tag, longest, Authentic}
 use Rattle.sealing.specs.Open as Aead
 use Rattle.sealing.proofs.Laws.{length-ciphertext, length-tag, ciphertext_twice}
 use Rattle.cipher.specs.Sealed.{standard, transparent, text_of, Comes}
+
+-- A part of which the end was written last.
+pub written_last : (text rest mark : List ℕ) (at : ℕ) → length text ≡ at → put_mid at (length (text ++ rest) - at) (text ++ rest) mark ≡ text ++ mark
+written_last text rest mark at h =
+    let l = length-append text rest in
+    rw (take_at text rest at h, drop_at text rest at h, drop_all (length (text ++ rest) - at) rest (omega arith), append-nil mark)
+
+-- A part of which the end was written.
+pub end-written : (part mark : List ℕ) (at : ℕ) → at ≤ length part → put_mid at (length part - at) part mark ≡ take at part ++ mark
+end-written part mark at h =
+    let l = length-drop at part in
+    rw (drop_all (length part - at) (drop at part) (omega arith), append-nil mark)
 
 -- Lists that are joined of two, the first as long.
 take_same : (xs ys us vs : List ℕ) → length xs ≡ length us → xs ++ ys ≡ us ++ vs → xs ≡ us
